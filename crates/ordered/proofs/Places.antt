@@ -32,7 +32,7 @@ module _ {A : Type 0} (below : A → A → Bool) where
 
 module _ {A : Type 0} (below : A → A → Bool) (order : TotalOrder below) where
   -- what is not above an entry below the key is below the key
-  not-above-below : (x y key : A) → below y x ≡ false → below y key ≡ true → below x key ≡ true
+  pub not-above-below : (x y key : A) → below y x ≡ false → below y key ≡ true → below x key ≡ true
   not-above-below x y key n b =
       ⊎-elim
       (λ t. order .transitive x y key t b)
@@ -46,7 +46,7 @@ module _ {A : Type 0} (below : A → A → Bool) (order : TotalOrder below) wher
   first-below key x (y ∷ ys) (suc i) d a h e =
       not-above-below x y key (not-true (below y x) (and-parts _ _ a .0)) (first-below key y ys i d (and-parts _ _ a .1) (omega arith) e)
 
-  ascends-tail : (x : A) (xs : List A) → ascends below (x ∷ xs) ≡ true → ascends below xs ≡ true
+  pub ascends-tail : (x : A) (xs : List A) → ascends below (x ∷ xs) ≡ true → ascends below xs ≡ true
   ascends-tail x [] a = refl
   ascends-tail x (y ∷ ys) a = and-parts _ _ a .1
 

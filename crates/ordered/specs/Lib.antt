@@ -1,2 +1,3 @@
-pub mod Order
+pub mod Lists
 pub mod Numbers
+pub mod Order

@@ -1,0 +1,6 @@
+pub mod Quads
+pub mod QuadOrder
+pub mod Patterns
+pub mod Listings
+pub mod PlainLists
+pub mod PlainMeaning

@@ -1,0 +1,20 @@
+// Quads, patterns over them, and the sources that a session asks.
+mod check;
+mod pattern;
+mod plain;
+mod plain_source;
+mod quad;
+mod source;
+
+pub use check::ListRefusal;
+pub use check::check_plain;
+pub use pattern::Pattern;
+pub use pattern::Place;
+pub use plain::PlainList;
+pub use plain_source::PlainSource;
+pub use quad::MAX_ID;
+pub use quad::Mark;
+pub use quad::Quad;
+pub use quad::QuadOrdered;
+pub use quad::is_id;
+pub use source::QuadSource;
