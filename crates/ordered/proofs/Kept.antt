@@ -10,10 +10,10 @@ use Rattle.std.proofs.shelf.Tests.{and-parts, and-from, cases-bool, cond-true, 
 use Rattle.ordered.specs.Order.{TotalOrder, chained, ascends, strictlyAscends, firstNotBelow}
 use Rattle.ordered.proofs.Places.{not-above-below, ascends-tail}
 
-kept-yes : {A : Type 0} (test : A → Bool) (x : A) (xs : List A) → test x ≡ true → kept-by test (x ∷ xs) ≡ x ∷ kept-by test xs
+pub kept-yes : {A : Type 0} (test : A → Bool) (x : A) (xs : List A) → test x ≡ true → kept-by test (x ∷ xs) ≡ x ∷ kept-by test xs
 kept-yes test x xs e = cond-true (test x) _ _ e
 
-kept-no : {A : Type 0} (test : A → Bool) (x : A) (xs : List A) → test x ≡ false → kept-by test (x ∷ xs) ≡ kept-by test xs
+pub kept-no : {A : Type 0} (test : A → Bool) (x : A) (xs : List A) → test x ≡ false → kept-by test (x ∷ xs) ≡ kept-by test xs
 kept-no test x xs e = cond-false (test x) _ _ e
 
 -- two filters, in either order

@@ -4,3 +4,5 @@ pub mod Patterns
 pub mod Listings
 pub mod PlainLists
 pub mod PlainMeaning
+pub mod Counts
+pub mod Marks
