@@ -29,11 +29,18 @@ pub data Verdict : Type 0 where
   accepted : Verdict
   refused : (number place : ℕ) → Verdict
 
--- the number and the place of each refusal
+-- the number of each refusal, and the place that it carries
+abbrev pub refusalNumber : ListRefusal → ℕ
+refusalNumber (NotAnId place) = 3
+refusalNumber (NotAscending place) = 4
+
+abbrev pub refusalPlace : ListRefusal → ℕ
+refusalPlace (NotAnId place) = place
+refusalPlace (NotAscending place) = place
+
 abbrev pub verdict : {A : Type 0} → Result A ListRefusal → Verdict
 verdict (Ok x) = accepted
-verdict (Err (NotAnId place)) = refused 3 place
-verdict (Err (NotAscending place)) = refused 4 place
+verdict (Err r) = refused (refusalNumber r) (refusalPlace r)
 
 -- no quad: what stands past the end of a list
 abbrev pub nowhere : Quad

@@ -1,5 +1,5 @@
 // Checking that quads in host memory are a plain list.
-ghost use Rattle.quads.specs.PlainLists.{isPlain, verdict, checked, risesAt};
+ghost use Rattle.quads.specs.PlainLists.{isPlain, verdict, checked, risesAt, refusalNumber, refusalPlace};
 ghost use Prim.Native.Nat.{_<_};
 ghost use Rattle.std.specs.Results.{isOk};
 ghost use lib.ListN.{length};
@@ -15,6 +15,28 @@ pub enum ListRefusal {
     NotAnId(usize),
     // It is not strictly above the quad before it.
     NotAscending(usize),
+}
+
+impl ListRefusal {
+    // The refusal's number.
+    pub fn number(self) -> u32
+        ensures { λ r. ⌜ r ≡ refusalNumber self ⌝ }
+    {
+        match self {
+            ListRefusal::NotAnId(_) => 3,
+            ListRefusal::NotAscending(_) => 4,
+        }
+    }
+
+    // The place of the quad at fault, counted from 0.
+    pub fn place(self) -> usize
+        ensures { λ r. ⌜ r ≡ refusalPlace self ⌝ }
+    {
+        match self {
+            ListRefusal::NotAnId(place) => place,
+            ListRefusal::NotAscending(place) => place,
+        }
+    }
 }
 
 // Whether every number is an ID and each quad is strictly above the one before; else the first quad at fault.

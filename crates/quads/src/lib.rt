@@ -7,6 +7,8 @@ mod quad;
 mod source;
 
 pub use check::ListRefusal;
+pub use check::ListRefusalDebug;
+pub use check::ListRefusalPartialEq;
 pub use check::check_plain;
 pub use pattern::Pattern;
 pub use pattern::Place;
@@ -15,6 +17,8 @@ pub use plain_source::PlainSource;
 pub use quad::MAX_ID;
 pub use quad::Mark;
 pub use quad::Quad;
+pub use quad::QuadDebug;
 pub use quad::QuadOrdered;
+pub use quad::QuadPartialEq;
 pub use quad::is_id;
 pub use source::QuadSource;

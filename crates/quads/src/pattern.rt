@@ -5,7 +5,7 @@ use crate::quad::Quad;
 use crate::quad::is_id;
 
 // One place of a pattern.
-#[derive(Clone, Copy, PartialEq, Eq, Debug)]
+#[derive(Clone, Copy)]
 pub enum Place {
     Any,
     Given(u32),
@@ -33,7 +33,7 @@ impl Place {
     }
 }
 
-#[derive(Clone, Copy, PartialEq, Eq, Debug)]
+#[derive(Clone, Copy)]
 pub struct Pattern {
     pub s: Place,
     pub p: Place,

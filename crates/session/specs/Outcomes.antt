@@ -1,0 +1,50 @@
+-- What a call comes to: which number and which values belong to each case of an answer. Assumes nothing.
+use Prim.Native.Nat.{ℕ}
+use Rattle.std.specs.declared.option.Option.{Option}
+use Rattle.std.specs.declared.option.Option.the-variants.{Some, None}
+use Rattle.std.specs.declared.result.Result.{Result}
+use Rattle.std.specs.declared.result.Result.the-variants.{Ok, Err}
+use Rattle.quads.specs.declared.quad.Quad.{Quad}
+use Rattle.session.specs.declared.refusal.Refusal.{Refusal}
+use Rattle.session.specs.declared.refusal.Refusal.the-variants.{NoSuchCursor, NotAnId, CursorClosed, CursorOpen, CursorEnded, MarkBehind, BufferShort}
+use Rattle.session.specs.declared.call.Reply.{Reply}
+use Rattle.session.specs.declared.call.Reply.the-variants.{Opened, Gave, End, Counted}
+
+pub data Outcome : Type 0 where
+  opened : Outcome
+  gave : Quad → Outcome
+  ended : Outcome
+  counted : ℕ → Outcome
+  refused : ℕ → Outcome
+
+-- the number of each refusal
+abbrev pub refusalNumber : Refusal → ℕ
+refusalNumber NoSuchCursor = 11
+refusalNumber NotAnId = 12
+refusalNumber CursorClosed = 21
+refusalNumber CursorOpen = 22
+refusalNumber CursorEnded = 23
+refusalNumber MarkBehind = 24
+refusalNumber BufferShort = 25
+
+-- the outcome of a cursor's reply
+abbrev pub replied : Result Reply Refusal → Outcome
+replied (Ok Opened) = opened
+replied (Ok (Gave q)) = gave q
+replied (Ok End) = ended
+replied (Ok (Counted n)) = counted n
+replied (Err r) = refused (refusalNumber r)
+
+-- the outcomes of the public calls: open, next, and those that count
+abbrev pub ofOpen : {A : Type 0} → Result A Refusal → Outcome
+ofOpen (Ok x) = opened
+ofOpen (Err r) = refused (refusalNumber r)
+
+abbrev pub ofNext : Result (Option Quad) Refusal → Outcome
+ofNext (Ok (Some q)) = gave q
+ofNext (Ok None) = ended
+ofNext (Err r) = refused (refusalNumber r)
+
+abbrev pub ofCount : Result ℕ Refusal → Outcome
+ofCount (Ok n) = counted n
+ofCount (Err r) = refused (refusalNumber r)

@@ -1,0 +1,9 @@
+// Sessions: eight cursors over any quad source.
+mod call;
+mod count;
+mod cursor;
+mod refusal;
+
+pub use call::Ask;
+pub use call::Reply;
+pub use refusal::Refusal;
