@@ -1,4 +1,5 @@
 // Sessions: eight cursors over any quad source.
+mod answer;
 mod call;
 mod count;
 mod cursor;
