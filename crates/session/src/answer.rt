@@ -9,6 +9,7 @@ use crate::call::Ask;
 use crate::call::Reply;
 use crate::count::count_between;
 use crate::count::count_from;
+use crate::count::one_more;
 use crate::count::right_after;
 use crate::cursor::Cursor;
 use crate::cursor::State;
@@ -89,7 +90,7 @@ impl Cursor {
         match source.first(self.pattern, mark) {
             Some(quad) => {
                 self.state = State::Waiting(right_after(quad));
-                self.given = self.given.saturating_add(1);
+                self.given = one_more(self.given);
                 Reply::Gave(quad)
             }
             None => {

@@ -2,7 +2,7 @@
 ghost use Rattle.quads.specs.Counts.{capped};
 ghost use Rattle.quads.specs.Listings.{matching, notBelow};
 ghost use Rattle.quads.specs.Marks.{between, rightAfter};
-ghost use Prim.Native.Nat.{_≤_};
+ghost use Prim.Native.Nat.{_+_, _≤_};
 ghost use lib.ListN.{length};
 ghost use mathlib.Core.Path.{_≡_};
 use ordered::Ordered;
@@ -15,6 +15,13 @@ use quads::QuadSource;
 
 // Where a count stops.
 const MAX_COUNT: u32 = 4_294_967_295;
+
+// One more, as counts are answered.
+pub(crate) fn one_more(count: u32) -> u32
+    ensures { λ r. ⌜ r ≡ capped (count + 1) ⌝ }
+{
+    count.saturating_add(1)
+}
 
 // The mark right after a quad of a source.
 pub(crate) fn right_after(quad: Quad) -> Mark

@@ -19,3 +19,10 @@ pub struct Cursor {
     // How many quads this opening gave, as counts are answered.
     pub(crate) given: u32,
 }
+
+#[derive(Clone, Copy)]
+pub struct Table {
+    pub(crate) cursors: [Cursor; 8],
+    // How many quads all openings of all cursors gave, as counts are answered.
+    pub(crate) given: u32,
+}

@@ -4,6 +4,7 @@ mod call;
 mod count;
 mod cursor;
 mod refusal;
+mod table;
 
 pub use call::Ask;
 pub use call::Reply;
