@@ -1,3 +1,4 @@
 pub mod Cursors
 pub mod Outcomes
 pub mod Tables
+pub mod Rolls

@@ -4,8 +4,11 @@ mod call;
 mod count;
 mod cursor;
 mod refusal;
+mod roll;
+mod session;
 mod table;
 
 pub use call::Ask;
 pub use call::Reply;
 pub use refusal::Refusal;
+pub use session::Session;

@@ -1,0 +1,44 @@
+-- The roll: which cursors are open, as they are written into a buffer. Assumes nothing.
+use mathlib.Core.Bool.{Bool, true, false, cond}
+use mathlib.Core.List.{List}
+use mathlib.Core.Path.{_≡_}
+use Prim.Native.Nat.{ℕ}
+use lib.Dec.{ltb, eqb}
+use lib.ListN.{length, take, drop}
+use Rattle.std.specs.Iters.{counting}
+use Rattle.std.specs.shelf.Lists.{kept-by, countBy}
+use Rattle.std.specs.declared.result.Result.{Result}
+use Rattle.std.specs.declared.result.Result.the-variants.{Ok, Err}
+use Rattle.session.specs.Outcomes.{Outcome, counted, refused}
+use Rattle.session.specs.Tables.{cursorAt}
+use Rattle.session.specs.declared.cursor.State.{State}
+use Rattle.session.specs.declared.cursor.State.the-variants.{Closed, Waiting, Ended}
+use Rattle.session.specs.declared.cursor.Table.{Table}
+use Rattle.session.specs.declared.refusal.Refusal.{Refusal}
+
+-- a cursor is open while it waits or has ended
+abbrev pub isOpen : State → Bool
+isOpen Closed = false
+isOpen (Waiting mark) = true
+isOpen Ended = true
+
+unfoldable pub isOpenAt : Table → ℕ → Bool
+isOpenAt t k = isOpen (cursorAt t k .state)
+
+-- the numbers of the open cursors
+unfoldable pub openCursors : Table → List ℕ
+openCursors t = kept-by (isOpenAt t) (counting 0 8)
+
+-- how many they are, or 25 for a buffer with too little room
+unfoldable pub rollOutcome : Table → ℕ → Outcome
+rollOutcome t room = cond (ltb room (length (openCursors t))) (refused 25) (counted (length (openCursors t)))
+
+-- how often the number stands in the list
+abbrev pub occurrences : ℕ → List ℕ → ℕ
+occurrences k ns = countBy (eqb k) ns
+
+-- the front of the buffer has each open cursor just once and nothing else, in any order, and later entries keep what they
+-- held; a refusal leaves the whole buffer as it was
+abbrev pub RollWrote : Table → List ℕ → List ℕ → Result ℕ Refusal → Type 0
+RollWrote t before after (Ok n) = ((k : ℕ) → occurrences k (take n after) ≡ cond (isOpenAt t k) 1 0) × (drop n after ≡ drop n before)
+RollWrote t before after (Err r) = after ≡ before
