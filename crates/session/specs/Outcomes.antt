@@ -35,6 +35,13 @@ replied (Ok End) = ended
 replied (Ok (Counted n)) = counted n
 replied (Err r) = refused (refusalNumber r)
 
+-- the count in a reply, or 0
+abbrev pub countOf : Reply → ℕ
+countOf Opened = 0
+countOf (Gave q) = 0
+countOf End = 0
+countOf (Counted n) = n
+
 -- the outcomes of the public calls: open, next, and those that count
 abbrev pub ofOpen : {A : Type 0} → Result A Refusal → Outcome
 ofOpen (Ok x) = opened

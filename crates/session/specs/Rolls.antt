@@ -1,5 +1,5 @@
 -- The roll: which cursors are open, as they are written into a buffer. Assumes nothing.
-use mathlib.Core.Bool.{Bool, true, false, cond}
+use mathlib.Core.Bool.{Bool, true, false, cond, _&&_}
 use mathlib.Core.List.{List}
 use mathlib.Core.Path.{_≡_}
 use Prim.Native.Nat.{ℕ}
@@ -22,8 +22,9 @@ isOpen Closed = false
 isOpen (Waiting mark) = true
 isOpen Ended = true
 
+-- there is a cursor of this number, and it is open
 unfoldable pub isOpenAt : Table → ℕ → Bool
-isOpenAt t k = isOpen (cursorAt t k .state)
+isOpenAt t k = ltb k 8 && isOpen (cursorAt t k .state)
 
 -- the numbers of the open cursors
 unfoldable pub openCursors : Table → List ℕ

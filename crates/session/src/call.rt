@@ -1,4 +1,6 @@
 // What can be asked of a cursor, and what it replies.
+ghost use Rattle.session.specs.Outcomes.{countOf};
+ghost use mathlib.Core.Path.{_≡_};
 use quads::Mark;
 use quads::Pattern;
 use quads::Quad;
@@ -24,4 +26,16 @@ pub enum Reply {
     Gave(Quad),
     End,
     Counted(u32),
+}
+
+impl Reply {
+    // The count in the reply, or 0.
+    pub(crate) fn count(self) -> u32
+        ensures { λ r. ⌜ r ≡ countOf self ⌝ }
+    {
+        match self {
+            Reply::Counted(count) => count,
+            _ => 0,
+        }
+    }
 }

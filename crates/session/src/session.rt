@@ -56,4 +56,51 @@ impl<S: QuadSource> Session<S> {
             _ => Ok(None),
         }
     }
+
+    // Moves the cursor's mark forward, or keeps it, and counts the quads that this newly jumps.
+    pub fn seek(&mut self, cursor: u32, mark: Mark) -> Result<u32, Refusal>
+        ensures answer { λ r. ⌜ ofCount r ≡ askOutcome (means (now (self .entry) .source)) (now (self .entry) .table) cursor (Seek mark) ⌝ }
+        ensures after { λ _. ⌜ now (self .exit) .table ≡ askAfter (means (now (self .entry) .source)) (now (self .entry) .table) cursor (Seek mark) ⌝ }
+        ensures source { λ _. ⌜ now (self .exit) .source ≡ now (self .entry) .source ⌝ }
+    {
+        let reply = self.table.ask(&self.source, cursor, Ask::Seek(mark))?;
+        Ok(reply.count())
+    }
+
+    // Counts the quads that are left.
+    pub fn left(&self, cursor: u32) -> Result<u32, Refusal>
+        ensures { λ r. ⌜ ofCount r ≡ askOutcome (means (now (self .entry) .source)) (now (self .entry) .table) cursor Left ⌝ }
+    {
+        let mut table = self.table;
+        let reply = table.ask(&self.source, cursor, Ask::Left)?;
+        Ok(reply.count())
+    }
+
+    // Closes an open cursor, and counts the quads that this opening gave.
+    pub fn close(&mut self, cursor: u32) -> Result<u32, Refusal>
+        ensures answer { λ r. ⌜ ofCount r ≡ askOutcome (means (now (self .entry) .source)) (now (self .entry) .table) cursor Close ⌝ }
+        ensures after { λ _. ⌜ now (self .exit) .table ≡ askAfter (means (now (self .entry) .source)) (now (self .entry) .table) cursor Close ⌝ }
+        ensures source { λ _. ⌜ now (self .exit) .source ≡ now (self .entry) .source ⌝ }
+    {
+        let reply = self.table.ask(&self.source, cursor, Ask::Close)?;
+        Ok(reply.count())
+    }
+
+    // How many quads were given to all cursors since attaching.
+    pub fn tally(&self) -> u32
+        ensures { λ r. ⌜ r ≡ now (self .entry) .table .given ⌝ }
+    {
+        self.table.given
+    }
+
+    // Writes the numbers of the open cursors, each just once, at the front of the buffer, and answers how many.
+    pub fn roll(&self, buffer: &mut [u32]) -> Result<usize, Refusal>
+        ensures answer { λ r. ⌜ ofCount r ≡ rollOutcome (now (self .entry) .table) (length (now (buffer .entry))) ⌝ }
+        ensures wrote { λ r. ⌜ RollWrote (now (self .entry) .table) (now (buffer .entry)) (now (buffer .exit)) r ⌝ }
+    {
+        if buffer.len() < self.table.count_open() {
+            return Err(Refusal::BufferShort);
+        }
+        Ok(self.table.write_open(buffer))
+    }
 }
