@@ -92,7 +92,7 @@ module _ {A : Type 0} (below : A → A → Bool) (order : TotalOrder below) wher
       let kept : sorted (q ∷ rest) ≡ true = subst (λ zs. sorted zs ≡ true) h (sorted-kept from xs e) in
       let head : from q ≡ true = and-parts _ _ (subst (λ zs. each from zs ≡ true) h (passes from xs)) .0 in
       let later : (x : A) → below q x ≡ true → from x ≡ true =
-          λ x b. ⊎-elim (λ t. absurd (both-ways _ (not-true _ head) (order .transitive q x key b t))) (λ f. not-from-false _ f) (cases-bool (below x key)) in
+      λ x b. ⊎-elim (λ t. absurd (both-ways _ (not-true _ head) (order .transitive q x key b t))) (λ f. not-from-false _ f) (cases-bool (below x key)) in
       sym (kept-within (below q) from later xs)
       ∙ ap (kept-by (below q)) h
       ∙ kept-no (below q) q rest (order .irreflexive q)

@@ -1,5 +1,6 @@
 // Quads, patterns over them, and the sources that a session asks.
 mod check;
+mod count;
 mod pattern;
 mod plain;
 mod plain_source;
@@ -10,6 +11,8 @@ pub use check::ListRefusal;
 pub use check::ListRefusalDebug;
 pub use check::ListRefusalPartialEq;
 pub use check::check_plain;
+pub use count::MAX_COUNT;
+pub use count::one_more;
 pub use pattern::Pattern;
 pub use pattern::Place;
 pub use plain::PlainList;

@@ -46,13 +46,19 @@ impl Pattern {
     pub fn matches(self, quad: Quad) -> bool
         ensures { λ r. ⌜ r ≡ matches self quad ⌝ }
     {
-        self.s.admits(quad.s) && self.p.admits(quad.p) && self.o.admits(quad.o) && self.g.admits(quad.g)
+        self.s.admits(quad.s)
+            && self.p.admits(quad.p)
+            && self.o.admits(quad.o)
+            && self.g.admits(quad.g)
     }
 
     // Whether every given number is an ID.
     pub fn gives_only_ids(self) -> bool
         ensures { λ r. ⌜ r ≡ asksIds self ⌝ }
     {
-        self.s.is_any_or_id() && self.p.is_any_or_id() && self.o.is_any_or_id() && self.g.is_any_or_id()
+        self.s.is_any_or_id()
+            && self.p.is_any_or_id()
+            && self.o.is_any_or_id()
+            && self.g.is_any_or_id()
     }
 }

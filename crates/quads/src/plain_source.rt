@@ -21,7 +21,9 @@ impl<'a> PlainList<'a> {
         ensures { λ r. ⌜ plainMeans r ≡ listed (now (quads .entry)) ⌝ }
     {
         if check_plain(quads).is_err() {
-            return PlainList { quads: &quads[0..0] };
+            return PlainList {
+                quads: &quads[0..0],
+            };
         }
         PlainList { quads }
     }

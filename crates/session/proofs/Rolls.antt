@@ -89,10 +89,11 @@ module _ (test : ℕ → Bool) where
   module _ (k n : ℕ) (buffer old : List ℕ) (count : n ≡ length (upto k)) (front : take n buffer ≡ upto k) (rest : drop n buffer ≡ drop n old) where
     pub wrote-yes : n < length buffer → test k ≡ true
         → (n + 1 ≡ length (upto (k + 1))) × (take (n + 1) (set buffer n k) ≡ upto (k + 1)) × (drop (n + 1) (set buffer n k) ≡ drop (n + 1) old)
-    wrote-yes h e =
-        (let more : length (upto (k + 1)) ≡ length (upto k) + 1 = ap length (upto-yes k e) ∙ length-append (upto k) (k ∷ []) in omega arith,
-        take-more-set buffer n k h ∙ ap (λ xs. xs ++ k ∷ []) front ∙ sym (upto-yes k e),
-        drop-set-lt (n + 1) buffer n k (omega arith) ∙ sym (drop-drop 1 n buffer) ∙ ap (drop 1) rest ∙ drop-drop 1 n old)
+    wrote-yes h e = (
+      let more : length (upto (k + 1)) ≡ length (upto k) + 1 = ap length (upto-yes k e) ∙ length-append (upto k) (k ∷ []) in omega arith,
+      take-more-set buffer n k h ∙ ap (λ xs. xs ++ k ∷ []) front ∙ sym (upto-yes k e),
+      drop-set-lt (n + 1) buffer n k (omega arith) ∙ sym (drop-drop 1 n buffer) ∙ ap (drop 1) rest ∙ drop-drop 1 n old,
+    )
 
     pub wrote-no : test k ≡ false → (n ≡ length (upto (k + 1))) × (take n buffer ≡ upto (k + 1)) × (drop n buffer ≡ drop n old)
     wrote-no e = (count ∙ ap length (sym (upto-no k e)), front ∙ sym (upto-no k e), rest)

@@ -4,12 +4,13 @@ ghost use Rattle.session.specs.Cursors.{closed, openedAt, cursorOutcome, curso
 ghost use Rattle.session.specs.Outcomes.{Outcome, replied};
 ghost use Rattle.std.specs.declared.result.Result.the-variants.{Ok};
 ghost use Prim.Native.Nat.{_≤_};
+ghost use Rattle.std.specs.Results.{isOk};
+ghost use mathlib.Core.Bool.{false};
 ghost use mathlib.Core.Path.{_≡_};
 use crate::call::Ask;
 use crate::call::Reply;
 use crate::count::count_between;
 use crate::count::count_from;
-use crate::count::one_more;
 use crate::count::right_after;
 use crate::cursor::Cursor;
 use crate::cursor::State;
@@ -21,6 +22,7 @@ use quads::Place;
 use quads::Quad;
 use quads::QuadOrdered;
 use quads::QuadSource;
+use quads::one_more;
 
 // The mark that no quad is below.
 const LOWEST: Mark = Quad {
@@ -46,6 +48,7 @@ impl Cursor {
     pub(crate) fn answer<S: QuadSource>(&mut self, source: &S, ask: Ask) -> Result<Reply, Refusal>
         ensures outcome { λ r. ⌜ replied r ≡ cursorOutcome (means (now (source .entry))) (now (self .entry)) ask ⌝ }
         ensures after { λ _. ⌜ now (self .exit) ≡ cursorAfter (means (now (source .entry))) (now (self .entry)) ask ⌝ }
+        ensures kept { λ r. ⌜ (isOk r ≡ false → now (self .exit) ≡ now (self .entry)) ⌝ }
     {
         match (self.state, ask) {
             (State::Closed, Ask::Open(pattern)) => Ok(self.open(pattern)),
@@ -53,7 +56,11 @@ impl Cursor {
             (State::Closed, _) => Err(Refusal::CursorClosed),
             (State::Waiting(mark), Ask::Next) => Ok(self.advance(source, mark)),
             (State::Waiting(mark), Ask::Seek(to)) => self.jump(source, mark, to),
-            (State::Waiting(mark), Ask::Left) => Ok(Reply::Counted(count_from(source, self.pattern, mark))),
+            (State::Waiting(mark), Ask::Left) => Ok(Reply::Counted(count_from(
+                source,
+                self.pattern,
+                mark,
+            ))),
             (State::Ended, Ask::Next) => Ok(Reply::End),
             (State::Ended, Ask::Seek(_)) => Err(Refusal::CursorEnded),
             (State::Ended, Ask::Left) => Ok(Reply::Counted(0)),
@@ -104,6 +111,7 @@ impl Cursor {
     fn jump<S: QuadSource>(&mut self, source: &S, mark: Mark, to: Mark) -> Result<Reply, Refusal>
         ensures outcome { λ r. ⌜ replied r ≡ soughtOutcome (means (now (source .entry))) (now (self .entry) .pattern) mark to ⌝ }
         ensures after { λ _. ⌜ now (self .exit) ≡ sought (now (self .entry)) mark to ⌝ }
+        ensures kept { λ r. ⌜ (isOk r ≡ false → now (self .exit) ≡ now (self .entry)) ⌝ }
     {
         if to.is_below(&mark) {
             return Err(Refusal::MarkBehind);

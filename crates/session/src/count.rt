@@ -2,26 +2,17 @@
 ghost use Rattle.quads.specs.Counts.{capped};
 ghost use Rattle.quads.specs.Listings.{matching, notBelow};
 ghost use Rattle.quads.specs.Marks.{between, rightAfter};
-ghost use Prim.Native.Nat.{_+_, _≤_};
+ghost use Prim.Native.Nat.{_≤_};
 ghost use lib.ListN.{length};
 ghost use mathlib.Core.Path.{_≡_};
 use ordered::Ordered;
+use quads::MAX_COUNT;
 use quads::MAX_ID;
 use quads::Mark;
 use quads::Pattern;
 use quads::Quad;
 use quads::QuadOrdered;
 use quads::QuadSource;
-
-// Where a count stops.
-const MAX_COUNT: u32 = 4_294_967_295;
-
-// One more, as counts are answered.
-pub(crate) fn one_more(count: u32) -> u32
-    ensures { λ r. ⌜ r ≡ capped (count + 1) ⌝ }
-{
-    count.saturating_add(1)
-}
 
 // The mark right after a quad of a source.
 pub(crate) fn right_after(quad: Quad) -> Mark
@@ -52,7 +43,12 @@ pub(crate) fn count_from<S: QuadSource>(source: &S, pattern: Pattern, from: Mark
 }
 
 // How many quads of the source match the pattern, from one mark on and below another.
-pub(crate) fn count_between<S: QuadSource>(source: &S, pattern: Pattern, from: Mark, to: Mark) -> u32
+pub(crate) fn count_between<S: QuadSource>(
+    source: &S,
+    pattern: Pattern,
+    from: Mark,
+    to: Mark,
+) -> u32
     ensures { λ r. ⌜ r ≡ capped (length (between from to (matching (means (now (source .entry))) pattern))) ⌝ }
 {
     let mut count = 0;

@@ -40,6 +40,7 @@ impl<S: QuadSource> Session<S> {
         ensures answer { λ r. ⌜ ofOpen r ≡ askOutcome (means (now (self .entry) .source)) (now (self .entry) .table) cursor (Open pattern) ⌝ }
         ensures after { λ _. ⌜ now (self .exit) .table ≡ askAfter (means (now (self .entry) .source)) (now (self .entry) .table) cursor (Open pattern) ⌝ }
         ensures source { λ _. ⌜ now (self .exit) .source ≡ now (self .entry) .source ⌝ }
+        ensures kept { λ r. ⌜ (isOk r ≡ false → now (self .exit) .table ≡ now (self .entry) .table) ⌝ }
     {
         self.table.ask(&self.source, cursor, Ask::Open(pattern))?;
         Ok(())
@@ -50,6 +51,7 @@ impl<S: QuadSource> Session<S> {
         ensures answer { λ r. ⌜ ofNext r ≡ askOutcome (means (now (self .entry) .source)) (now (self .entry) .table) cursor Next ⌝ }
         ensures after { λ _. ⌜ now (self .exit) .table ≡ askAfter (means (now (self .entry) .source)) (now (self .entry) .table) cursor Next ⌝ }
         ensures source { λ _. ⌜ now (self .exit) .source ≡ now (self .entry) .source ⌝ }
+        ensures kept { λ r. ⌜ (isOk r ≡ false → now (self .exit) .table ≡ now (self .entry) .table) ⌝ }
     {
         match self.table.ask(&self.source, cursor, Ask::Next)? {
             Reply::Gave(quad) => Ok(Some(quad)),
@@ -62,6 +64,7 @@ impl<S: QuadSource> Session<S> {
         ensures answer { λ r. ⌜ ofCount r ≡ askOutcome (means (now (self .entry) .source)) (now (self .entry) .table) cursor (Seek mark) ⌝ }
         ensures after { λ _. ⌜ now (self .exit) .table ≡ askAfter (means (now (self .entry) .source)) (now (self .entry) .table) cursor (Seek mark) ⌝ }
         ensures source { λ _. ⌜ now (self .exit) .source ≡ now (self .entry) .source ⌝ }
+        ensures kept { λ r. ⌜ (isOk r ≡ false → now (self .exit) .table ≡ now (self .entry) .table) ⌝ }
     {
         let reply = self.table.ask(&self.source, cursor, Ask::Seek(mark))?;
         Ok(reply.count())
@@ -81,6 +84,7 @@ impl<S: QuadSource> Session<S> {
         ensures answer { λ r. ⌜ ofCount r ≡ askOutcome (means (now (self .entry) .source)) (now (self .entry) .table) cursor Close ⌝ }
         ensures after { λ _. ⌜ now (self .exit) .table ≡ askAfter (means (now (self .entry) .source)) (now (self .entry) .table) cursor Close ⌝ }
         ensures source { λ _. ⌜ now (self .exit) .source ≡ now (self .entry) .source ⌝ }
+        ensures kept { λ r. ⌜ (isOk r ≡ false → now (self .exit) .table ≡ now (self .entry) .table) ⌝ }
     {
         let reply = self.table.ask(&self.source, cursor, Ask::Close)?;
         Ok(reply.count())

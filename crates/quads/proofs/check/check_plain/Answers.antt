@@ -40,4 +40,4 @@ pub returns : need.returns
 returns c =
     let qs = c .args .quads .now in
     let sound : (k : ℕ) → k < length qs → atFault qs k ≡ false = λ k l. c .loop-place .inv k (omega arith) in
-    record { answer = sym (checked-sound qs sound); test = sym (plain-from-sound qs sound); }
+    record { answer = sym (checked-sound qs sound); test = sym (plain-from-sound qs sound) }

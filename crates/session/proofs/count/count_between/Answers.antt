@@ -45,12 +45,13 @@ loop-quad-less g c =
 pub loop-quad-again : need.loop-quad-again
 loop-quad-again g c =
     let s = c .args .source .now in
-    let src = g .S·QuadSource in
-    (omega arith,
-    subst (λ m. c .loop-quad .count + 1 + length (between m (c .args .to) (matching (src .means s) (c .args .pattern))) ≡ length (between (c .args .from) (c .args .to) (matching (src .means s) (c .args .pattern))))
-    (sym (c .right-after-mark .ensures))
-    (count-more (src .means s) (src .ascending s) (src .ids s) (c .args .pattern) (c .loop-quad .mark) (c .args .to) (c .loop-quad .count) _
-    (c .loop-quad .inv .1) (c .in-Some .quad) (sym (c .in-Some .ensures tt)) (sym (c .if-not-is-below .ensures tt))))
+    let src = g .S·QuadSource in (
+      omega arith,
+      subst (λ m. c .loop-quad .count + 1 + length (between m (c .args .to) (matching (src .means s) (c .args .pattern))) ≡ length (between (c .args .from) (c .args .to) (matching (src .means s) (c .args .pattern))))
+          (sym (c .right-after-mark .ensures))
+          (count-more (src .means s) (src .ascending s) (src .ids s) (c .args .pattern) (c .loop-quad .mark) (c .args .to) (c .loop-quad .count) _
+          (c .loop-quad .inv .1) (c .in-Some .quad) (sym (c .in-Some .ensures tt)) (sym (c .if-not-is-below .ensures tt))),
+    )
 
 pub returns : need.returns
 returns g c =

@@ -10,12 +10,18 @@ loop-low-holds g c =
     (omega arith, omega arith, λ a. (omega arith, place-length (g .T·Ordered .below) (c .args .key .now) (c .args .self .now .entries .now)))
 
 pub loop-low-again-then-is-below : need.loop-low-again-then-is-below
-loop-low-again-then-is-below g c =
-    (omega arith, omega arith, λ a.
-    let past = place-past (g .T·Ordered .below) (g .T·Ordered .laws) (c .args .key .now) (c .args .self .now .entries .now) _ _ a (omega arith) (sym (c .if-is-below .ensures tt)) in
-    (omega (arith, past), c .loop-low .inv .2 a .1))
+loop-low-again-then-is-below g c = (
+  omega arith,
+  omega arith,
+  λ a.
+      let past = place-past (g .T·Ordered .below) (g .T·Ordered .laws) (c .args .key .now) (c .args .self .now .entries .now) _ _ a (omega arith) (sym (c .if-is-below .ensures tt)) in
+      (omega (arith, past), c .loop-low .inv .2 a .1),
+)
 
 pub loop-low-again : need.loop-low-again
-loop-low-again g c =
-    (omega arith, omega arith, λ a.
-    (c .loop-low .inv .2 a .0, place-upto (g .T·Ordered .below) (c .args .key .now) (c .args .self .now .entries .now) _ _ (omega arith) (sym (c .if-is-below .ensures tt))))
+loop-low-again g c = (
+  omega arith,
+  omega arith,
+  λ a.
+      (c .loop-low .inv .2 a .0, place-upto (g .T·Ordered .below) (c .args .key .now) (c .args .self .now .entries .now) _ _ (omega arith) (sym (c .if-is-below .ensures tt))),
+)

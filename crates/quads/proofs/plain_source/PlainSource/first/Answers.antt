@@ -25,7 +25,7 @@ returns c =
     let same : now (c .new .result .entries) ≡ qs = c .new .ensures in
     let ascending : ascends quadBelow qs ≡ true = ascends-strictly quadBelow quad-order qs (plain-ascending l) in
     let place : c .first-not-below-start .result ≡ firstNotBelow quadBelow (c .args .mark) qs =
-        c .first-not-below-start .ensures .place (ap (ascends quadBelow) same ∙ ascending) ∙ ap (firstNotBelow quadBelow (c .args .mark)) same in
+    c .first-not-below-start .ensures .place (ap (ascends quadBelow) same ∙ ascending) ∙ ap (firstNotBelow quadBelow (c .args .mark)) same in
     c .first-match .ensures
     ∙ ap found (take-rest qs (c .first-not-below-start .result) ∙ ap (λ i. drop i qs) place)
     ∙ sym (first-from-place (plainMeans l) (c .args .pattern) (c .args .mark) (plain-ascending l))

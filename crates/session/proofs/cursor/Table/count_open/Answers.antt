@@ -13,8 +13,8 @@ loop-cursor-again c =
     let test = isOpenAt (c .args .self .now) in
     let k = c .loop-cursor .cursor in
     elim (c .if-is-open-at .came) [
-      then-is-open-at w ↦ let more : length (upto test (k + 1)) ≡ length (upto test k) + 1 = ap length (upto-yes test k (sym (w .if-is-open-at .ensures tt))) ∙ length-append (upto test k) (k ∷ []) in (omega (arith, w .count-is), omega (arith, w .count-is))
-    | else-is-open-at w ↦ let same : length (upto test (k + 1)) ≡ length (upto test k) = ap length (upto-no test k (sym (w .if-is-open-at .ensures tt))) in (omega (arith, w .count-is), omega (arith, w .count-is))
+      | then-is-open-at w ↦ let more : length (upto test (k + 1)) ≡ length (upto test k) + 1 = ap length (upto-yes test k (sym (w .if-is-open-at .ensures tt))) ∙ length-append (upto test k) (k ∷ []) in (omega (arith, w .count-is), omega (arith, w .count-is))
+      | else-is-open-at w ↦ let same : length (upto test (k + 1)) ≡ length (upto test k) = ap length (upto-no test k (sym (w .if-is-open-at .ensures tt))) in (omega (arith, w .count-is), omega (arith, w .count-is))
     ]
 
 pub returns : need.returns

@@ -40,8 +40,8 @@ loop-cursor-again c =
     let k = c .loop-cursor .cursor in
     let inv = c .loop-cursor .inv in
     elim (c .if-is-open-at .came) [
-      then-is-open-at w ↦ rw (w .buffer-is, w .count-is) (wrote-yes test k (c .loop-cursor .count) (c .loop-cursor .buffer) (c .args .buffer .now) (inv .0) (inv .1) (inv .2) (room (c .args .self .now) k (c .loop-cursor .count) _ (c .loop-cursor-test .taken) (sym (w .if-is-open-at .ensures tt)) (inv .0) (omega arith)) (sym (w .if-is-open-at .ensures tt)))
-    | else-is-open-at w ↦ rw (w .buffer-is, w .count-is) (wrote-no test k (c .loop-cursor .count) (c .loop-cursor .buffer) (c .args .buffer .now) (inv .0) (inv .1) (inv .2) (sym (w .if-is-open-at .ensures tt)))
+      | then-is-open-at w ↦ rw (w .buffer-is, w .count-is) (wrote-yes test k (c .loop-cursor .count) (c .loop-cursor .buffer) (c .args .buffer .now) (inv .0) (inv .1) (inv .2) (room (c .args .self .now) k (c .loop-cursor .count) _ (c .loop-cursor-test .taken) (sym (w .if-is-open-at .ensures tt)) (inv .0) (omega arith)) (sym (w .if-is-open-at .ensures tt)))
+      | else-is-open-at w ↦ rw (w .buffer-is, w .count-is) (wrote-no test k (c .loop-cursor .count) (c .loop-cursor .buffer) (c .args .buffer .now) (inv .0) (inv .1) (inv .2) (sym (w .if-is-open-at .ensures tt)))
     ]
 
 pub returns : need.returns
