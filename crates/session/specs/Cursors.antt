@@ -41,6 +41,11 @@ soughtOutcome l p mark to = cond (quadBelow to mark) (refused 24) (counted (capp
 abbrev pub sought : Cursor → Quad → Quad → Cursor
 sought c mark to = cond (quadBelow to mark) c (record { state = Waiting to; pattern = c .pattern; given = c .given })
 
+-- left: the matching quads from the mark on
+abbrev pub leftFrom : Listing → Pattern → Quad → Outcome
+leftFrom l p mark = counted (capped (length (notBelow mark (matching l p))))
+
+-- by the state, with 21 for a cursor that is closed, 22 for one that is open already and 23 for one that has ended
 abbrev pub outcomeIn : Listing → Cursor → State → Ask → Outcome
 outcomeIn l c Closed (Open p) = opened
 outcomeIn l c Closed Next = refused 21
@@ -50,7 +55,7 @@ outcomeIn l c Closed Close = refused 21
 outcomeIn l c (Waiting mark) (Open p) = refused 22
 outcomeIn l c (Waiting mark) Next = gaveOr (firstFrom l (c .pattern) mark)
 outcomeIn l c (Waiting mark) (Seek to) = soughtOutcome l (c .pattern) mark to
-outcomeIn l c (Waiting mark) Left = counted (capped (length (notBelow mark (matching l (c .pattern)))))
+outcomeIn l c (Waiting mark) Left = leftFrom l (c .pattern) mark
 outcomeIn l c (Waiting mark) Close = counted (c .given)
 outcomeIn l c Ended (Open p) = refused 22
 outcomeIn l c Ended Next = ended

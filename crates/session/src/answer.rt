@@ -1,9 +1,8 @@
 // What a cursor does when it is asked.
 ghost use Rattle.quads.specs.Listings.{firstFrom};
-ghost use Rattle.session.specs.Cursors.{closed, openedAt, cursorOutcome, cursorAfter, advanced, gaveOr, sought, soughtOutcome};
+ghost use Rattle.session.specs.Cursors.{closed, openedAt, cursorOutcome, cursorAfter, advanced, gaveOr, leftFrom, sought, soughtOutcome};
 ghost use Rattle.session.specs.Outcomes.{Outcome, replied};
 ghost use Rattle.std.specs.declared.result.Result.the-variants.{Ok};
-ghost use Prim.Native.Nat.{_≤_};
 ghost use Rattle.std.specs.Results.{isOk};
 ghost use mathlib.Core.Bool.{false};
 ghost use mathlib.Core.Path.{_≡_};
@@ -56,11 +55,7 @@ impl Cursor {
             (State::Closed, _) => Err(Refusal::CursorClosed),
             (State::Waiting(mark), Ask::Next) => Ok(self.advance(source, mark)),
             (State::Waiting(mark), Ask::Seek(to)) => self.jump(source, mark, to),
-            (State::Waiting(mark), Ask::Left) => Ok(Reply::Counted(count_from(
-                source,
-                self.pattern,
-                mark,
-            ))),
+            (State::Waiting(mark), Ask::Left) => Ok(self.left(source, mark)),
             (State::Ended, Ask::Next) => Ok(Reply::End),
             (State::Ended, Ask::Seek(_)) => Err(Refusal::CursorEnded),
             (State::Ended, Ask::Left) => Ok(Reply::Counted(0)),
@@ -87,6 +82,13 @@ impl Cursor {
         let given = self.given;
         *self = CLOSED;
         Reply::Counted(given)
+    }
+
+    // Counts the quads from the mark on.
+    fn left<S: QuadSource>(&self, source: &S, mark: Mark) -> Reply
+        ensures { λ r. ⌜ replied (Ok r) ≡ leftFrom (means (now (source .entry))) (now (self .entry) .pattern) mark ⌝ }
+    {
+        Reply::Counted(count_from(source, self.pattern, mark))
     }
 
     // Gives the first quad from the mark on and moves the mark right after it, or ends.

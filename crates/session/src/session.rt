@@ -17,16 +17,17 @@ use quads::Pattern;
 use quads::Quad;
 use quads::QuadSource;
 
+// The source is lent, so nothing changes it while the session lasts.
 #[derive(Drop)]
-pub struct Session<S> {
-    source: S,
+pub struct Session<'a, S> {
+    source: &'a S,
     table: Table,
 }
 
-impl<S: QuadSource> Session<S> {
+impl<'a, S: QuadSource> Session<'a, S> {
     // A session over the source, with all cursors closed.
-    pub fn attach(source: S) -> Session<S>
-        ensures source { λ r. ⌜ r .source ≡ source ⌝ }
+    pub fn attach(source: &'a S) -> Session<'a, S>
+        ensures source { λ r. ⌜ now (r .source) ≡ now (source .entry) ⌝ }
         ensures closed { λ r. ⌜ r .table ≡ newTable ⌝ }
     {
         Session {
@@ -37,23 +38,23 @@ impl<S: QuadSource> Session<S> {
 
     // Sets a closed cursor to list the quads that match the pattern, from the first.
     pub fn open(&mut self, cursor: u32, pattern: Pattern) -> Result<(), Refusal>
-        ensures answer { λ r. ⌜ ofOpen r ≡ askOutcome (means (now (self .entry) .source)) (now (self .entry) .table) cursor (Open pattern) ⌝ }
-        ensures after { λ _. ⌜ now (self .exit) .table ≡ askAfter (means (now (self .entry) .source)) (now (self .entry) .table) cursor (Open pattern) ⌝ }
-        ensures source { λ _. ⌜ now (self .exit) .source ≡ now (self .entry) .source ⌝ }
+        ensures answer { λ r. ⌜ ofOpen r ≡ askOutcome (means (now (now (self .entry) .source))) (now (self .entry) .table) cursor (Open pattern) ⌝ }
+        ensures after { λ _. ⌜ now (self .exit) .table ≡ askAfter (means (now (now (self .entry) .source))) (now (self .entry) .table) cursor (Open pattern) ⌝ }
+        ensures source { λ _. ⌜ now (now (self .exit) .source) ≡ now (now (self .entry) .source) ⌝ }
         ensures kept { λ r. ⌜ (isOk r ≡ false → now (self .exit) .table ≡ now (self .entry) .table) ⌝ }
     {
-        self.table.ask(&self.source, cursor, Ask::Open(pattern))?;
+        self.table.ask(self.source, cursor, Ask::Open(pattern))?;
         Ok(())
     }
 
     // Gives the next quad that matches, or none where all were given or jumped.
     pub fn next(&mut self, cursor: u32) -> Result<Option<Quad>, Refusal>
-        ensures answer { λ r. ⌜ ofNext r ≡ askOutcome (means (now (self .entry) .source)) (now (self .entry) .table) cursor Next ⌝ }
-        ensures after { λ _. ⌜ now (self .exit) .table ≡ askAfter (means (now (self .entry) .source)) (now (self .entry) .table) cursor Next ⌝ }
-        ensures source { λ _. ⌜ now (self .exit) .source ≡ now (self .entry) .source ⌝ }
+        ensures answer { λ r. ⌜ ofNext r ≡ askOutcome (means (now (now (self .entry) .source))) (now (self .entry) .table) cursor Next ⌝ }
+        ensures after { λ _. ⌜ now (self .exit) .table ≡ askAfter (means (now (now (self .entry) .source))) (now (self .entry) .table) cursor Next ⌝ }
+        ensures source { λ _. ⌜ now (now (self .exit) .source) ≡ now (now (self .entry) .source) ⌝ }
         ensures kept { λ r. ⌜ (isOk r ≡ false → now (self .exit) .table ≡ now (self .entry) .table) ⌝ }
     {
-        match self.table.ask(&self.source, cursor, Ask::Next)? {
+        match self.table.ask(self.source, cursor, Ask::Next)? {
             Reply::Gave(quad) => Ok(Some(quad)),
             _ => Ok(None),
         }
@@ -61,32 +62,32 @@ impl<S: QuadSource> Session<S> {
 
     // Moves the cursor's mark forward, or keeps it, and counts the quads that this newly jumps.
     pub fn seek(&mut self, cursor: u32, mark: Mark) -> Result<u32, Refusal>
-        ensures answer { λ r. ⌜ ofCount r ≡ askOutcome (means (now (self .entry) .source)) (now (self .entry) .table) cursor (Seek mark) ⌝ }
-        ensures after { λ _. ⌜ now (self .exit) .table ≡ askAfter (means (now (self .entry) .source)) (now (self .entry) .table) cursor (Seek mark) ⌝ }
-        ensures source { λ _. ⌜ now (self .exit) .source ≡ now (self .entry) .source ⌝ }
+        ensures answer { λ r. ⌜ ofCount r ≡ askOutcome (means (now (now (self .entry) .source))) (now (self .entry) .table) cursor (Seek mark) ⌝ }
+        ensures after { λ _. ⌜ now (self .exit) .table ≡ askAfter (means (now (now (self .entry) .source))) (now (self .entry) .table) cursor (Seek mark) ⌝ }
+        ensures source { λ _. ⌜ now (now (self .exit) .source) ≡ now (now (self .entry) .source) ⌝ }
         ensures kept { λ r. ⌜ (isOk r ≡ false → now (self .exit) .table ≡ now (self .entry) .table) ⌝ }
     {
-        let reply = self.table.ask(&self.source, cursor, Ask::Seek(mark))?;
+        let reply = self.table.ask(self.source, cursor, Ask::Seek(mark))?;
         Ok(reply.count())
     }
 
     // Counts the quads that are left.
     pub fn left(&self, cursor: u32) -> Result<u32, Refusal>
-        ensures { λ r. ⌜ ofCount r ≡ askOutcome (means (now (self .entry) .source)) (now (self .entry) .table) cursor Left ⌝ }
+        ensures { λ r. ⌜ ofCount r ≡ askOutcome (means (now (now (self .entry) .source))) (now (self .entry) .table) cursor Left ⌝ }
     {
         let mut table = self.table;
-        let reply = table.ask(&self.source, cursor, Ask::Left)?;
+        let reply = table.ask(self.source, cursor, Ask::Left)?;
         Ok(reply.count())
     }
 
     // Closes an open cursor, and counts the quads that this opening gave.
     pub fn close(&mut self, cursor: u32) -> Result<u32, Refusal>
-        ensures answer { λ r. ⌜ ofCount r ≡ askOutcome (means (now (self .entry) .source)) (now (self .entry) .table) cursor Close ⌝ }
-        ensures after { λ _. ⌜ now (self .exit) .table ≡ askAfter (means (now (self .entry) .source)) (now (self .entry) .table) cursor Close ⌝ }
-        ensures source { λ _. ⌜ now (self .exit) .source ≡ now (self .entry) .source ⌝ }
+        ensures answer { λ r. ⌜ ofCount r ≡ askOutcome (means (now (now (self .entry) .source))) (now (self .entry) .table) cursor Close ⌝ }
+        ensures after { λ _. ⌜ now (self .exit) .table ≡ askAfter (means (now (now (self .entry) .source))) (now (self .entry) .table) cursor Close ⌝ }
+        ensures source { λ _. ⌜ now (now (self .exit) .source) ≡ now (now (self .entry) .source) ⌝ }
         ensures kept { λ r. ⌜ (isOk r ≡ false → now (self .exit) .table ≡ now (self .entry) .table) ⌝ }
     {
-        let reply = self.table.ask(&self.source, cursor, Ask::Close)?;
+        let reply = self.table.ask(self.source, cursor, Ask::Close)?;
         Ok(reply.count())
     }
 
