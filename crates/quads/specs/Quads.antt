@@ -19,3 +19,7 @@ belowOr a b rest = ltb a b || (eqb a b && rest)
 -- quads, and marks like them, are ordered by s, then p, then o, then g
 unfoldable pub quadBelow : Quad → Quad → Bool
 quadBelow x y = belowOr (x .s) (y .s) (belowOr (x .p) (y .p) (belowOr (x .o) (y .o) (ltb (x .g) (y .g))))
+
+-- the two quads have the same four numbers
+unfoldable pub sameQuad : Quad → Quad → Bool
+sameQuad x y = eqb (x .s) (y .s) && eqb (x .p) (y .p) && eqb (x .o) (y .o) && eqb (x .g) (y .g)

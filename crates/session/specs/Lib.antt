@@ -1,4 +1,7 @@
 pub mod Cursors
+pub mod Histories
+pub mod Keeps
+pub mod Law
 pub mod Outcomes
-pub mod Tables
 pub mod Rolls
+pub mod Tables

@@ -1,4 +1,5 @@
 -- What a call comes to: which number and which values belong to each case of an answer. Assumes nothing.
+use mathlib.Core.List.{List}
 use Prim.Native.Nat.{ℕ}
 use Rattle.std.specs.declared.option.Option.{Option}
 use Rattle.std.specs.declared.option.Option.the-variants.{Some, None}
@@ -10,11 +11,14 @@ use Rattle.session.specs.declared.refusal.Refusal.the-variants.{NoSuchCursor, 
 use Rattle.session.specs.declared.call.Reply.{Reply}
 use Rattle.session.specs.declared.call.Reply.the-variants.{Opened, Gave, End, Counted}
 
+-- a cursor was opened; a quad was given; the listing has ended; a number was answered; so many cursors were written, and
+-- these; the call was refused with a number
 pub data Outcome : Type 0 where
   opened : Outcome
   gave : Quad → Outcome
   ended : Outcome
   counted : ℕ → Outcome
+  rolled : ℕ → List ℕ → Outcome
   refused : ℕ → Outcome
 
 -- the number of each refusal

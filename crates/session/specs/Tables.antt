@@ -8,7 +8,7 @@ use Rattle.quads.specs.Counts.{capped}
 use Rattle.quads.specs.Listings.{Listing}
 use Rattle.quads.specs.Patterns.{asksIds}
 use Rattle.session.specs.Cursors.{closed, cursorOutcome, cursorAfter}
-use Rattle.session.specs.Outcomes.{Outcome, opened, gave, ended, counted, refused}
+use Rattle.session.specs.Outcomes.{Outcome, opened, gave, ended, counted, rolled, refused}
 use Rattle.session.specs.declared.call.Ask.{Ask}
 use Rattle.session.specs.declared.call.Ask.the-variants.{Open, Next, Seek, Left, Close}
 use Rattle.session.specs.declared.cursor.Cursor.{Cursor}
@@ -34,6 +34,7 @@ tallied n opened = n
 tallied n (gave q) = capped (n + 1)
 tallied n ended = n
 tallied n (counted m) = n
+tallied n (rolled m ks) = n
 tallied n (refused r) = n
 
 -- the input is tried first: 11 for a cursor above 7, then 12 for a given number that is no ID

@@ -1,4 +1,4 @@
-// What can be asked of a cursor, and what it replies.
+// Calls: what can be asked of a session and of a cursor, and what a cursor replies.
 ghost use Rattle.session.specs.Outcomes.{countOf};
 ghost use mathlib.Core.Path.{_≡_};
 use quads::Mark;
@@ -19,7 +19,18 @@ pub enum Ask {
     Close,
 }
 
-// What a call that was not turned down answers.
+// A call on a session, with what it is handed.
+#[derive(Clone, Copy)]
+pub enum Call {
+    // Something is asked of the cursor of this number.
+    On(u32, Ask),
+    // How many quads were given since attaching.
+    Tally,
+    // Which cursors are open, into a buffer with room for so many.
+    Roll(usize),
+}
+
+// What a cursor that does not refuse answers.
 #[derive(Clone, Copy)]
 pub enum Reply {
     Opened,

@@ -9,6 +9,6 @@ mod session;
 mod table;
 
 pub use call::Ask;
-pub use call::Reply;
+pub use call::Call;
 pub use refusal::Refusal;
 pub use session::Session;

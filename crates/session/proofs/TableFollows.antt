@@ -1,0 +1,189 @@
+-- A session that keeps to a history answers what is due, and keeps to the history with the call added. Assumes nothing.
+use mathlib.Core.Bool.{Bool, true, false, cond, not, _&&_, _||_}
+use mathlib.Core.List.{List, [], _∷_, _++_}
+use mathlib.Core.Path.{_≡_, refl, sym, ap, subst, _∙_}
+use mathlib.Core.Logic.{_⊎_, inl, inr, ⊎-elim}
+use Prim.Native.Nat.{ℕ, zero, suc, _+_, _≤_, _<_}
+use native.Mathlib.Nat.{add-zero}
+use native.Mathlib.Omega.{arith}
+use lib.Dec.{ltb, eqb}
+use lib.ListN.{length, getD, set, replicate}
+use Rattle.std.specs.Options.{isSome}
+use Rattle.std.specs.declared.option.Option.{Option}
+use Rattle.std.specs.declared.option.Option.the-variants.{Some, None}
+use Rattle.std.proofs.shelf.Lists.{set-getD, getD-set-same, getD-set-other, getD-replicate, length-set}
+use Rattle.std.proofs.shelf.Tests.{cases-bool, cases-eq, cond-true, cond-false, ltb-true, ltb-false, eq-eqb, ne-eqb, and-left, and-right}
+use Rattle.ordered.specs.Lists.{each}
+use Rattle.ordered.specs.Order.{strictlyAscends}
+use Rattle.quads.specs.Counts.{capped}
+use Rattle.quads.specs.Quads.{hasIds, quadBelow}
+use Rattle.quads.specs.Listings.{Listing, firstFrom}
+use Rattle.quads.specs.declared.quad.Quad.{Quad}
+use Rattle.quads.specs.declared.pattern.Pattern.{Pattern}
+use Rattle.session.specs.Cursors.{closed, gaveOr, outcomeIn, cursorOutcome, cursorAfter}
+use Rattle.session.specs.Histories.{Event, History, Opening, granted, afterGranted, afterCall, openingOf, nextGave, givenSince, isOpenIn}
+use Rattle.session.specs.Keeps.{Waits, Finished, StandsIn, Stands, Keeps, Follows}
+use Rattle.session.specs.Law.{dueIn, dueOn, Due}
+use Rattle.session.specs.Outcomes.{Outcome, opened, gave, ended, counted, rolled, refused}
+use Rattle.session.specs.Rolls.{isOpen, isOpenAt}
+use Rattle.session.specs.Tables.{asksOnlyIds, newTable, cursorAt, tallied, askOutcome, asked, askAfter}
+use Rattle.session.specs.declared.call.Ask.{Ask}
+use Rattle.session.specs.declared.call.Ask.the-variants.{Open, Next, Seek, Left, Close}
+use Rattle.session.specs.declared.call.Call.{Call}
+use Rattle.session.specs.declared.call.Call.the-variants.{On, Tally, Roll}
+use Rattle.session.specs.declared.cursor.Cursor.{Cursor}
+use Rattle.session.specs.declared.cursor.State.{State}
+use Rattle.session.specs.declared.cursor.State.the-variants.{Closed, Waiting, Ended}
+use Rattle.session.specs.declared.cursor.Table.{Table}
+use Rattle.session.proofs.CursorFollows.{capped-more, goes, cursorOf, cursor-follows}
+
+-- a new session keeps to the empty history
+pub keeps-none : (l : Listing) → Keeps l [] newTable
+unfolding openingOf givenSince capped
+keeps-none l =
+    record {
+      cursors = λ k h. subst (λ c. Stands l None c) (sym (getD-replicate 8 k closed closed h)) refl;
+      tally = refl;
+      eight = refl;
+    }
+
+-- the event of a call
+abbrev pub event : Call → Outcome → Event
+event call o = record { call = call; outcome = o }
+
+-- a call that changes nothing
+keeps-same : (l : Listing) (h : History) (t : Table) (call : Call) (o : Outcome) → Keeps l h t
+    → ((k : ℕ) → openingOf k (event call o ∷ h) ≡ openingOf k h) → givenSince (event call o ∷ h) ≡ givenSince h → Keeps l (event call o ∷ h) t
+keeps-same l h t call o keeps same count =
+    record {
+      cursors = λ k b. subst (λ w. Stands l w (cursorAt t k)) (sym (same k)) (keeps .cursors k b);
+      tally = keeps .tally ∙ ap capped (sym count);
+      eight = keeps .eight;
+    }
+
+refused-gave : (ask : Ask) (n : ℕ) → nextGave ask (refused n) ≡ []
+refused-gave (Open p) n = refl
+refused-gave Next n = refl
+refused-gave (Seek mark) n = refl
+refused-gave Left n = refl
+refused-gave Close n = refl
+
+refused-opening : (k j : ℕ) (ask : Ask) (n : ℕ) (h : History) → openingOf k (event (On j ask) (refused n) ∷ h) ≡ openingOf k h
+unfolding openingOf
+refused-opening k j ask n h = cond-false (eqb j k && false) _ _ (and-right (eqb j k) false refl)
+
+refused-since : (j : ℕ) (ask : Ask) (n : ℕ) (h : History) → givenSince (event (On j ask) (refused n) ∷ h) ≡ givenSince h
+unfolding givenSince
+refused-since j ask n h = ap (λ qs. givenSince h + length qs) (refused-gave ask n) ∙ add-zero (givenSince h)
+
+keeps-refused : (l : Listing) (h : History) (t : Table) (k : ℕ) (ask : Ask) (n : ℕ) → Keeps l h t → Keeps l (event (On k ask) (refused n) ∷ h) t
+keeps-refused l h t k ask n keeps = keeps-same l h t (On k ask) (refused n) keeps (λ j. refused-opening j k ask n h) (refused-since k ask n h)
+
+-- the tally and the quads given
+tallied-gave : (l : Listing) (s : State) (p : Pattern) (n : ℕ) (ask : Ask) (m g : ℕ) → m ≡ capped g
+    → tallied m (outcomeIn l (cursorOf s p n) s ask) ≡ capped (g + length (nextGave ask (outcomeIn l (cursorOf s p n) s ask)))
+tallied-gave l s p n ask m g e = go s ask
+  where
+    none : m ≡ capped (g + 0)
+    none = e ∙ ap capped (sym (add-zero g))
+
+    next : (r : Option Quad) → tallied m (gaveOr r) ≡ capped (g + length (nextGave Next (gaveOr r)))
+    next None = none
+    next (Some q) = ap (λ x. capped (x + 1)) e ∙ capped-more g
+
+    seek : (b : Bool) (to : Quad) (x : ℕ) → tallied m (cond b (refused 24) (counted x)) ≡ capped (g + length (nextGave (Seek to) (cond b (refused 24) (counted x))))
+    seek true to x = none
+    seek false to x = none
+
+    go : (s : State) (ask : Ask) → tallied m (outcomeIn l (cursorOf s p n) s ask) ≡ capped (g + length (nextGave ask (outcomeIn l (cursorOf s p n) s ask)))
+    go Closed (Open q) = none
+    go Closed Next = none
+    go Closed (Seek to) = none
+    go Closed Left = none
+    go Closed Close = none
+    go (Waiting mark) (Open q) = none
+    go (Waiting mark) Next = next (firstFrom l p mark)
+    go (Waiting mark) (Seek to) = seek (quadBelow to mark) to _
+    go (Waiting mark) Left = none
+    go (Waiting mark) Close = none
+    go Ended (Open q) = none
+    go Ended Next = none
+    go Ended (Seek to) = none
+    go Ended Left = none
+    go Ended Close = none
+
+module _ (l : Listing) (ascending : strictlyAscends quadBelow (l .quads) ≡ true) (ids : each hasIds (l .quads) ≡ true) where
+  -- a call that reaches its cursor
+  keeps-asked : (h : History) (t : Table) (k : ℕ) (ask : Ask) → k < 8 → Keeps l h t
+      → (cursorOutcome l (cursorAt t k) ask ≡ dueIn l (openingOf k h) ask) × Keeps l (event (On k ask) (cursorOutcome l (cursorAt t k) ask) ∷ h) (asked l t k ask)
+  unfolding openingOf givenSince
+  keeps-asked h t k ask b keeps =
+      let c = cursorAt t k in
+      let o = cursorOutcome l c ask in
+      let step = cursor-follows l ascending ids (openingOf k h) (c .state) (c .pattern) (c .given) ask (keeps .cursors k b) in
+      (step .0, record {
+        cursors = λ j m.
+            ⊎-elim
+            (λ e.
+            let here : getD (set (t .cursors) k (cursorAfter l c ask)) j closed ≡ cursorAfter l c ask =
+                ap (λ i. getD (set (t .cursors) k (cursorAfter l c ask)) i closed) e ∙ getD-set-same (t .cursors) k (cursorAfter l c ask) closed (omega (arith, keeps .eight)) in
+            let named : openingOf j (event (On k ask) o ∷ h) ≡ goes (openingOf k h) ask o =
+                ap (λ t′. cond (t′ && granted o) (afterGranted ask o (openingOf j h)) (openingOf j h)) (eq-eqb k j (sym e)) ∙ ap (λ i. goes (openingOf i h) ask o) e in
+            subst (λ w. Stands l w (getD (set (t .cursors) k (cursorAfter l c ask)) j closed)) (sym named) (subst (λ d. Stands l (goes (openingOf k h) ask o) d) (sym here) (step .1)))
+            (λ n.
+            let there : getD (set (t .cursors) k (cursorAfter l c ask)) j closed ≡ cursorAt t j = getD-set-other (t .cursors) k j (cursorAfter l c ask) closed n in
+            let other : openingOf j (event (On k ask) o ∷ h) ≡ openingOf j h = cond-false (eqb k j && granted o) _ _ (and-left _ _ (ne-eqb k j (λ e. n (sym e)))) in
+            subst (λ w. Stands l w (getD (set (t .cursors) k (cursorAfter l c ask)) j closed)) (sym other) (subst (λ d. Stands l (openingOf j h) d) (sym there) (keeps .cursors j m)))
+            (cases-eq j k);
+        tally = tallied-gave l (c .state) (c .pattern) (c .given) ask (t .given) (givenSince h) (keeps .tally);
+        eight = length-set (t .cursors) k (cursorAfter l c ask) ∙ keeps .eight;
+      })
+
+  pub ask-follows : (t : Table) (k : ℕ) (ask : Ask) → Follows l t (On k ask) (askOutcome l t k ask) (askAfter l t k ask)
+  ask-follows t k ask h keeps = go (ltb 7 k) refl
+    where
+      input : (b : Bool) → asksOnlyIds ask ≡ b → ltb 7 k ≡ false
+          → (cond b (cursorOutcome l (cursorAt t k) ask) (refused 12) ≡ cond b (dueIn l (openingOf k h) ask) (refused 12))
+          × Keeps l (event (On k ask) (cond b (cursorOutcome l (cursorAt t k) ask) (refused 12)) ∷ h) (cond b (asked l t k ask) t)
+      input true e f = keeps-asked h t k ask (omega (arith, ltb-false 7 k f)) keeps
+      input false e f = (refl, keeps-refused l h t k ask 12 keeps)
+
+      go : (b : Bool) → ltb 7 k ≡ b
+          → (cond b (refused 11) (cond (asksOnlyIds ask) (cursorOutcome l (cursorAt t k) ask) (refused 12)) ≡ cond b (refused 11) (cond (asksOnlyIds ask) (dueIn l (openingOf k h) ask) (refused 12)))
+          × Keeps l (event (On k ask) (cond b (refused 11) (cond (asksOnlyIds ask) (cursorOutcome l (cursorAt t k) ask) (refused 12))) ∷ h) (cond b t (cond (asksOnlyIds ask) (asked l t k ask) t))
+      go true e = (refl, keeps-refused l h t k ask 11 keeps)
+      go false e = input (asksOnlyIds ask) refl e
+
+-- asking what is left changes nothing
+pub left-same : (l : Listing) (t : Table) (k : ℕ) → askAfter l t k Left ≡ t
+left-same l t k =
+    ap (λ u. cond (ltb 7 k) t u) (kept (cursorAt t k .state) refl) ∙ both (ltb 7 k)
+  where
+    both : (b : Bool) → cond b t t ≡ t
+    both true = refl
+    both false = refl
+
+    after : State → Cursor
+    after s = Rattle.session.specs.Cursors.afterIn l (cursorAt t k) s Left
+
+    kept : (s : State) → cursorAt t k .state ≡ s → asked l t k Left ≡ t
+    kept s e = λ i. record {
+      cursors = (ap (set (t .cursors) k) (stays (cursorAt t k .state)) ∙ set-getD (t .cursors) k closed) i;
+      given = counts (cursorAt t k .state) i;
+    }
+      where
+        stays : (s : State) → Rattle.session.specs.Cursors.afterIn l (cursorAt t k) s Left ≡ cursorAt t k
+        stays Closed = refl
+        stays (Waiting mark) = refl
+        stays Ended = refl
+
+        counts : (s : State) → tallied (t .given) (outcomeIn l (cursorAt t k) s Left) ≡ t .given
+        counts Closed = refl
+        counts (Waiting mark) = refl
+        counts Ended = refl
+
+-- tally
+pub tally-follows : (l : Listing) (t : Table) → Follows l t Tally (counted (t .given)) t
+unfolding openingOf givenSince
+tally-follows l t h keeps =
+    (ap counted (keeps .tally), keeps-same l h t Tally (counted (t .given)) keeps (λ k. refl) (add-zero (givenSince h)))

@@ -1,0 +1,84 @@
+-- The session law: what a host is promised of any use of a session. Assumes nothing.
+use mathlib.Core.Bool.{Bool, true, false, cond, not}
+use mathlib.Core.List.{List, [], _∷_}
+use mathlib.Core.Path.{_≡_}
+use Prim.Native.Nat.{ℕ, _≤_, _<_}
+use lib.Dec.{ltb}
+use lib.ListN.{length, drop}
+use Rattle.std.specs.Iters.{counting}
+use Rattle.std.specs.shelf.Lists.{kept-by}
+use Rattle.std.specs.declared.option.Option.{Option}
+use Rattle.std.specs.declared.option.Option.the-variants.{Some, None}
+use Rattle.ordered.specs.Lists.{each, foremost}
+use Rattle.ordered.specs.Order.{strictlyAscends}
+use Rattle.quads.specs.Counts.{capped}
+use Rattle.quads.specs.Quads.{quadBelow}
+use Rattle.quads.specs.Listings.{Listing, matching}
+use Rattle.quads.specs.declared.quad.Quad.{Quad}
+use Rattle.session.specs.Cursors.{gaveOr}
+use Rattle.session.specs.Histories.{Event, History, Opening, openingOf, has, given, jumped, left, newlyJumped, hasEnded, markOf, givenSince, isOpenIn, asksOf, answersOf}
+use Rattle.session.specs.Outcomes.{Outcome, opened, gave, ended, counted, rolled, refused}
+use Rattle.session.specs.Rolls.{occurrences}
+use Rattle.session.specs.Tables.{asksOnlyIds}
+use Rattle.session.specs.declared.call.Ask.{Ask}
+use Rattle.session.specs.declared.call.Ask.the-variants.{Open, Next, Seek, Left, Close}
+use Rattle.session.specs.declared.call.Call.{Call}
+use Rattle.session.specs.declared.call.Call.the-variants.{On, Tally, Roll}
+
+-- what a cursor in an opening, or in none, has to answer: next the least quad left, or end exactly if none is left; left,
+-- seek and close the numbers left, newly jumped and given by this opening
+abbrev pub dueIn : Listing → Option Opening → Ask → Outcome
+dueIn l None (Open p) = opened
+dueIn l None Next = refused 21
+dueIn l None (Seek mark) = refused 21
+dueIn l None Left = refused 21
+dueIn l None Close = refused 21
+dueIn l (Some w) (Open p) = refused 22
+dueIn l (Some w) Next = gaveOr (foremost (left l w))
+dueIn l (Some w) (Seek mark) = cond (hasEnded w) (refused 23) (cond (quadBelow mark (markOf w)) (refused 24) (counted (capped (length (newlyJumped l w mark)))))
+dueIn l (Some w) Left = counted (capped (length (left l w)))
+dueIn l (Some w) Close = counted (capped (length (given w)))
+
+-- the input is tried first
+abbrev pub dueOn : Listing → ℕ → Option Opening → Ask → Outcome
+dueOn l k w ask = cond (ltb 7 k) (refused 11) (cond (asksOnlyIds ask) (dueIn l w ask) (refused 12))
+
+-- how many cursors are open
+abbrev pub numberOpen : History → ℕ
+numberOpen h = length (kept-by (isOpenIn h) (counting 0 8))
+
+-- roll: the open cursors, each just once and nothing else, in any order; 25 exactly for a buffer that is too short
+abbrev pub DueRoll : History → ℕ → Outcome → Type 0
+DueRoll h room opened = ⊥
+DueRoll h room (gave q) = ⊥
+DueRoll h room ended = ⊥
+DueRoll h room (counted n) = ⊥
+DueRoll h room (rolled n ks) = (numberOpen h ≤ room) × (n ≡ numberOpen h) × (length ks ≡ n) × ((k : ℕ) → occurrences k ks ≡ cond (isOpenIn h k) 1 0)
+DueRoll h room (refused n) = (room < numberOpen h) × (n ≡ 25)
+
+-- what has to come of a call after the calls of this history
+abbrev pub Due : Listing → History → Call → Outcome → Type 0
+Due l h (On k ask) o = o ≡ dueOn l k (openingOf k h) ask
+Due l h Tally o = o ≡ counted (capped (givenSince h))
+Due l h (Roll room) o = DueRoll h room o
+
+-- each call came to what was due after the calls before it
+abbrev pub Answered : Listing → History → Type 0
+Answered l [] = Unit {0}
+Answered l (e ∷ h) = Due l h (e .call) (e .outcome) × Answered l h
+
+-- of an opening: the quads given are in the listing and match; they came in ascending order, so none came twice; none of
+-- them was jumped; those left ascend too, so that the first of them is the least; and each quad left is above all given
+pub record Listed (l : Listing) (w : Opening) : Type 0 where
+  pub matches : each (has (matching l (w .pattern))) (given w) ≡ true
+  pub ascends : strictlyAscends quadBelow (given w) ≡ true
+  pub unjumped : each (λ q. not (jumped w q)) (given w) ≡ true
+  pub leastFirst : strictlyAscends quadBelow (left l w) ≡ true
+  pub above : each (λ q. each (quadBelow q) (left l w)) (given w) ≡ true
+
+-- the law: every answer was due; at every time it was so of every open cursor; and whoever asks the same of a cursor, over
+-- the same listing, has the same answers from it, whatever is asked of the others
+pub record Law (l : Listing) (h : History) : Type 0 where
+  pub answered : Answered l h
+  pub listed : (before k : ℕ) (w : Opening) → openingOf k (drop before h) ≡ Some w → Listed l w
+  pub apart : (k : ℕ) (other : History) → Answered l other → asksOf k other ≡ asksOf k h → answersOf k other ≡ answersOf k h
