@@ -9,9 +9,12 @@ use native.Mathlib.Omega.{arith}
 use lib.Dec.{ltb, eqb}
 use lib.ListN.{length, getD, set, replicate}
 use Rattle.std.specs.Options.{isSome}
+use Rattle.std.specs.Iters.{counting}
 use Rattle.std.specs.declared.option.Option.{Option}
 use Rattle.std.specs.declared.option.Option.the-variants.{Some, None}
-use Rattle.std.proofs.shelf.Lists.{set-getD, getD-set-same, getD-set-other, getD-replicate, length-set}
+use Rattle.std.specs.declared.result.Result.{Result}
+use Rattle.std.specs.declared.result.Result.the-variants.{Ok, Err}
+use Rattle.std.proofs.shelf.Lists.{set-getD, getD-set-same, getD-set-other, getD-replicate, length-set, length-take-le}
 use Rattle.std.proofs.shelf.Tests.{cases-bool, cases-eq, cond-true, cond-false, ltb-true, ltb-false, eq-eqb, ne-eqb, and-left, and-right}
 use Rattle.ordered.specs.Lists.{each}
 use Rattle.ordered.specs.Order.{strictlyAscends}
@@ -20,12 +23,12 @@ use Rattle.quads.specs.Quads.{hasIds, quadBelow}
 use Rattle.quads.specs.Listings.{Listing, firstFrom}
 use Rattle.quads.specs.declared.quad.Quad.{Quad}
 use Rattle.quads.specs.declared.pattern.Pattern.{Pattern}
-use Rattle.session.specs.Cursors.{closed, gaveOr, outcomeIn, cursorOutcome, cursorAfter}
+use Rattle.session.specs.Cursors.{closed, gaveOr, outcomeIn, afterIn, cursorOutcome, cursorAfter}
 use Rattle.session.specs.Histories.{Event, History, Opening, granted, afterGranted, afterCall, openingOf, nextGave, givenSince, isOpenIn}
 use Rattle.session.specs.Keeps.{Waits, Finished, StandsIn, Stands, Keeps, Follows}
-use Rattle.session.specs.Law.{dueIn, dueOn, Due}
-use Rattle.session.specs.Outcomes.{Outcome, opened, gave, ended, counted, rolled, refused}
-use Rattle.session.specs.Rolls.{isOpen, isOpenAt}
+use Rattle.session.specs.Law.{dueIn, dueOn, Due, DueRoll, numberOpen}
+use Rattle.session.specs.Outcomes.{Outcome, opened, gave, ended, counted, rolled, refused, refusalNumber, ofCount, ofRoll}
+use Rattle.session.specs.Rolls.{isOpen, isOpenAt, openCursors, rollOutcome, RollWrote, occurrences}
 use Rattle.session.specs.Tables.{asksOnlyIds, newTable, cursorAt, tallied, askOutcome, asked, askAfter}
 use Rattle.session.specs.declared.call.Ask.{Ask}
 use Rattle.session.specs.declared.call.Ask.the-variants.{Open, Next, Seek, Left, Close}
@@ -35,6 +38,8 @@ use Rattle.session.specs.declared.cursor.Cursor.{Cursor}
 use Rattle.session.specs.declared.cursor.State.{State}
 use Rattle.session.specs.declared.cursor.State.the-variants.{Closed, Waiting, Ended}
 use Rattle.session.specs.declared.cursor.Table.{Table}
+use Rattle.session.specs.declared.refusal.Refusal.{Refusal}
+use Rattle.ordered.proofs.Sorted.{kept-same}
 use Rattle.session.proofs.CursorFollows.{capped-more, goes, cursorOf, cursor-follows}
 
 -- a new session keeps to the empty history
@@ -155,35 +160,81 @@ module _ (l : Listing) (ascending : strictlyAscends quadBelow (l .quads) ≡ tru
       go false e = input (asksOnlyIds ask) refl e
 
 -- asking what is left changes nothing
+left-stays : (l : Listing) (c : Cursor) (s : State) → afterIn l c s Left ≡ c
+left-stays l c Closed = refl
+left-stays l c (Waiting mark) = refl
+left-stays l c Ended = refl
+
+left-counts : (l : Listing) (c : Cursor) (n : ℕ) (s : State) → tallied n (outcomeIn l c s Left) ≡ n
+left-counts l c n Closed = refl
+left-counts l c n (Waiting mark) = refl
+left-counts l c n Ended = refl
+
+cond-same : {A : Type 0} (b : Bool) (x : A) → cond b x x ≡ x
+cond-same true x = refl
+cond-same false x = refl
+
 pub left-same : (l : Listing) (t : Table) (k : ℕ) → askAfter l t k Left ≡ t
 left-same l t k =
-    ap (λ u. cond (ltb 7 k) t u) (kept (cursorAt t k .state) refl) ∙ both (ltb 7 k)
-  where
-    both : (b : Bool) → cond b t t ≡ t
-    both true = refl
-    both false = refl
-
-    after : State → Cursor
-    after s = Rattle.session.specs.Cursors.afterIn l (cursorAt t k) s Left
-
-    kept : (s : State) → cursorAt t k .state ≡ s → asked l t k Left ≡ t
-    kept s e = λ i. record {
-      cursors = (ap (set (t .cursors) k) (stays (cursorAt t k .state)) ∙ set-getD (t .cursors) k closed) i;
-      given = counts (cursorAt t k .state) i;
-    }
-      where
-        stays : (s : State) → Rattle.session.specs.Cursors.afterIn l (cursorAt t k) s Left ≡ cursorAt t k
-        stays Closed = refl
-        stays (Waiting mark) = refl
-        stays Ended = refl
-
-        counts : (s : State) → tallied (t .given) (outcomeIn l (cursorAt t k) s Left) ≡ t .given
-        counts Closed = refl
-        counts (Waiting mark) = refl
-        counts Ended = refl
+    let c = cursorAt t k in
+    let kept : asked l t k Left ≡ t = λ i. record {
+      cursors = (ap (set (t .cursors) k) (left-stays l c (c .state)) ∙ set-getD (t .cursors) k closed) i;
+      given = left-counts l c (t .given) (c .state) i;
+    } in
+    ap (cond (ltb 7 k) t) kept ∙ cond-same (ltb 7 k) t
 
 -- tally
 pub tally-follows : (l : Listing) (t : Table) → Follows l t Tally (counted (t .given)) t
 unfolding openingOf givenSince
 tally-follows l t h keeps =
     (ap counted (keeps .tally), keeps-same l h t Tally (counted (t .given)) keeps (λ k. refl) (add-zero (givenSince h)))
+
+-- a cursor is open in the table as the history tells
+open-stands : (l : Listing) (w : Option Opening) (c : Cursor) (s : State) → StandsIn l w c s → isOpen s ≡ isSome w
+open-stands l w c Closed e = sym (ap isSome e)
+open-stands l w c (Waiting mark) h = sym (ap isSome (h .1))
+open-stands l w c Ended h = sym (ap isSome (h .1))
+
+open-same : (l : Listing) (h : History) (t : Table) → Keeps l h t → (k : ℕ) → isOpenAt t k ≡ isOpenIn h k
+unfolding isOpenAt isOpenIn
+open-same l h t keeps k =
+    ⊎-elim
+    (λ b. ap (λ s. ltb k 8 && s) (open-stands l (openingOf k h) (cursorAt t k) (cursorAt t k .state) (keeps .cursors k (ltb-true k 8 b))))
+    (λ b. and-left _ _ b ∙ sym (and-left _ _ b))
+    (cases-bool (ltb k 8))
+
+number-same : (l : Listing) (h : History) (t : Table) → Keeps l h t → length (openCursors t) ≡ numberOpen h
+unfolding openCursors
+number-same l h t keeps = ap length (kept-same (isOpenAt t) (isOpenIn h) (open-same l h t keeps) (counting 0 8))
+
+-- roll
+due-roll : (l : Listing) (h : History) (t : Table) (before after : List ℕ) (r : Result ℕ Refusal) → Keeps l h t → length after ≡ length before
+    → ofCount r ≡ rollOutcome t (length before) → RollWrote t before after r → DueRoll h (length before) (ofRoll r after)
+unfolding rollOutcome
+due-roll l h t before after (Ok n) keeps long answer wrote =
+    ⊎-elim
+    (λ b. let z : _≡_ {A = ℕ} 0 1 = cc (answer, cond-true (ltb (length before) (length (openCursors t))) (refused 25) (counted (length (openCursors t))) b) in absurd (omega arith))
+    (λ b.
+    let e : counted n ≡ counted (length (openCursors t)) = answer ∙ cond-false (ltb (length before) (length (openCursors t))) (refused 25) (counted (length (openCursors t))) b in
+    let m : n ≡ length (openCursors t) = cc in
+    let same : length (openCursors t) ≡ numberOpen h = number-same l h t keeps in
+    let room : length (openCursors t) ≤ length before = ltb-false _ _ b in
+    (omega arith, omega arith, length-take-le n after (omega arith), λ k. wrote .0 k ∙ ap (λ s. cond s 1 0) (open-same l h t keeps k)))
+    (cases-bool (ltb (length before) (length (openCursors t))))
+due-roll l h t before after (Err r) keeps long answer wrote =
+    ⊎-elim
+    (λ b.
+    let e : refused (refusalNumber r) ≡ refused 25 = answer ∙ cond-true (ltb (length before) (length (openCursors t))) (refused 25) (counted (length (openCursors t))) b in
+    let m : refusalNumber r ≡ 25 = cc in
+    let same : length (openCursors t) ≡ numberOpen h = number-same l h t keeps in
+    let short : length before < length (openCursors t) = ltb-true _ _ b in
+    (omega arith, m))
+    (λ b. let z : _≡_ {A = ℕ} 0 1 = cc (answer, cond-false (ltb (length before) (length (openCursors t))) (refused 25) (counted (length (openCursors t))) b) in absurd (omega arith))
+    (cases-bool (ltb (length before) (length (openCursors t))))
+
+pub roll-follows : (l : Listing) (t : Table) (before after : List ℕ) (r : Result ℕ Refusal) → length after ≡ length before
+    → ofCount r ≡ rollOutcome t (length before) → RollWrote t before after r → Follows l t (Roll (length before)) (ofRoll r after) t
+unfolding openingOf givenSince
+roll-follows l t before after r long answer wrote h keeps =
+    (due-roll l h t before after r keeps long answer wrote,
+    keeps-same l h t (Roll (length before)) (ofRoll r after) keeps (λ k. refl) (add-zero (givenSince h)))

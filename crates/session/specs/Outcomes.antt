@@ -1,6 +1,7 @@
 -- What a call comes to: which number and which values belong to each case of an answer. Assumes nothing.
 use mathlib.Core.List.{List}
 use Prim.Native.Nat.{ℕ}
+use lib.ListN.{take}
 use Rattle.std.specs.declared.option.Option.{Option}
 use Rattle.std.specs.declared.option.Option.the-variants.{Some, None}
 use Rattle.std.specs.declared.result.Result.{Result}
@@ -59,3 +60,8 @@ ofNext (Err r) = refused (refusalNumber r)
 abbrev pub ofCount : Result ℕ Refusal → Outcome
 ofCount (Ok n) = counted n
 ofCount (Err r) = refused (refusalNumber r)
+
+-- the outcome of roll, by its answer and what the buffer then holds
+abbrev pub ofRoll : Result ℕ Refusal → List ℕ → Outcome
+ofRoll (Ok n) buffer = rolled n (take n buffer)
+ofRoll (Err r) buffer = refused (refusalNumber r)
