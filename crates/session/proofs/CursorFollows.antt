@@ -80,26 +80,31 @@ CursorFollows l w c ask = (cursorOutcome l c ask ≡ dueIn l w ask) × Stands l 
 module _ (l : Listing) (ascending : strictlyAscends quadBelow (l .quads) ≡ true) (ids : each hasIds (l .quads) ≡ true) where
   opens : (p : Pattern) → StandsIn l (Some (record { pattern = p; calls = [] })) (openedAt p) (Waiting lowest)
   unfolding endedBy markBy givenBy
-  opens p =
-      (record { pattern = p; calls = [] }, refl, record {
-        pattern = refl;
-        going = refl;
-        place = refl;
-        rest = fresh-left l p ∙ sym (from-lowest (matching l p));
-        count = capped-zero;
-      })
+  opens p = (
+    record { pattern = p; calls = [] },
+    refl,
+    record {
+      pattern = refl;
+      going = refl;
+      place = refl;
+      rest = fresh-left l p ∙ sym (from-lowest (matching l p));
+      count = capped-zero;
+    },
+  )
 
   -- next at a mark
   next-none : (v : Opening) (p : Pattern) (n : ℕ) (mark : Quad) → Waits l v (cursorOf (Waiting mark) p n) mark → firstFrom l p mark ≡ None → (ended ≡ gaveOr (foremost (left l v))) × Finished l (called Next ended v) (cursorOf Ended p n)
   unfolding endedBy
   next-none v p n mark h e =
-      let none : left l v ≡ [] = h .rest ∙ ap (λ r. notBelow mark (matching l r)) (h .pattern) ∙ first-none l p mark e in
-      (ap (λ qs. gaveOr (foremost qs)) (sym none), record {
-        pattern = h .pattern;
-        done = refl;
-        rest = quiet-left l v Next ended refl (λ q. refl) ∙ none;
-        count = h .count ∙ ap (λ qs. capped (length qs)) (sym (quiet-given l v Next ended refl));
-      })
+      let none : left l v ≡ [] = h .rest ∙ ap (λ r. notBelow mark (matching l r)) (h .pattern) ∙ first-none l p mark e in (
+        ap (λ qs. gaveOr (foremost qs)) (sym none),
+        record {
+          pattern = h .pattern;
+          done = refl;
+          rest = quiet-left l v Next ended refl (λ q. refl) ∙ none;
+          count = h .count ∙ ap (λ qs. capped (length qs)) (sym (quiet-given l v Next ended refl));
+        },
+      )
 
   next-some : (v : Opening) (p : Pattern) (n : ℕ) (mark q : Quad) → Waits l v (cursorOf (Waiting mark) p n) mark → firstFrom l p mark ≡ Some q
       → (gave q ≡ gaveOr (foremost (left l v))) × Waits l (called Next (gave q) v) (cursorOf (Waiting (rightAfter q)) p (capped (n + 1))) (rightAfter q)
@@ -108,37 +113,41 @@ module _ (l : Listing) (ascending : strictlyAscends quadBelow (l .quads) ≡ tru
       let found = first-some l p mark q e in
       let rest : left l v ≡ q ∷ found .0 = h .rest ∙ ap (λ r. notBelow mark (matching l r)) (h .pattern) ∙ found .1 in
       let ascends : sorted quadBelow quad-order (q ∷ found .0) ≡ true = subst (λ qs. sorted quadBelow quad-order qs ≡ true) (found .1) (notBelow-sorted l ascending ids p mark) in
-      let more : length (given (called Next (gave q) v)) ≡ length (given v) + 1 = ap length (next-given l v q) ∙ length-append (given v) (q ∷ []) in
-      (ap (λ qs. gaveOr (foremost qs)) (sym rest), record {
-        pattern = h .pattern;
-        going = h .going;
-        place = refl;
-        rest =
-            next-left l v q
-            ∙ ap (kept-by (λ x. not (sameQuad x q))) rest
-            ∙ kept-others q (found .0) ascends
-            ∙ sym (notBelow-rightAfter l ascending ids p mark q (found .0) (found .1))
-            ∙ ap (λ r. notBelow (rightAfter q) (matching l r)) (sym (h .pattern));
-        count = ap (λ m. capped (m + 1)) (h .count) ∙ capped-more (length (given v)) ∙ ap capped (sym more);
-      })
+      let more : length (given (called Next (gave q) v)) ≡ length (given v) + 1 = ap length (next-given l v q) ∙ length-append (given v) (q ∷ []) in (
+        ap (λ qs. gaveOr (foremost qs)) (sym rest),
+        record {
+          pattern = h .pattern;
+          going = h .going;
+          place = refl;
+          rest =
+              next-left l v q
+              ∙ ap (kept-by (λ x. not (sameQuad x q))) rest
+              ∙ kept-others q (found .0) ascends
+              ∙ sym (notBelow-rightAfter l ascending ids p mark q (found .0) (found .1))
+              ∙ ap (λ r. notBelow (rightAfter q) (matching l r)) (sym (h .pattern));
+          count = ap (λ m. capped (m + 1)) (h .count) ∙ capped-more (length (given v)) ∙ ap capped (sym more);
+        },
+      )
 
   -- seek to a mark that is not below
   seek-on : (v : Opening) (p : Pattern) (n : ℕ) (mark to : Quad) (o : Outcome) → Waits l v (cursorOf (Waiting mark) p n) mark → quadBelow to mark ≡ false
       → (between mark to (matching l p) ≡ newlyJumped l v to) × Waits l (called (Seek to) o v) (cursorOf (Waiting to) p n) to
   unfolding endedBy markBy between newlyJumped
   seek-on v p n mark to o h f =
-      let rest : left l v ≡ notBelow mark (matching l p) = h .rest ∙ ap (λ r. notBelow mark (matching l r)) (h .pattern) in
-      (ap (kept-by (λ q. quadBelow q to)) (sym rest), record {
-        pattern = h .pattern;
-        going = h .going;
-        place = refl;
-        rest =
-            seek-left l v to o
-            ∙ ap (kept-by (λ x. not (quadBelow x to))) rest
-            ∙ notBelow-later mark to (matching l p) f
-            ∙ ap (λ r. notBelow to (matching l r)) (sym (h .pattern));
-        count = h .count ∙ ap (λ qs. capped (length qs)) (sym (quiet-given l v (Seek to) o refl));
-      })
+      let rest : left l v ≡ notBelow mark (matching l p) = h .rest ∙ ap (λ r. notBelow mark (matching l r)) (h .pattern) in (
+        ap (kept-by (λ q. quadBelow q to)) (sym rest),
+        record {
+          pattern = h .pattern;
+          going = h .going;
+          place = refl;
+          rest =
+              seek-left l v to o
+              ∙ ap (kept-by (λ x. not (quadBelow x to))) rest
+              ∙ notBelow-later mark to (matching l p) f
+              ∙ ap (λ r. notBelow to (matching l r)) (sym (h .pattern));
+          count = h .count ∙ ap (λ qs. capped (length qs)) (sym (quiet-given l v (Seek to) o refl));
+        },
+      )
 
   -- a call that tells of the opening and leaves it as it was
   tells-waits : (v : Opening) (c : Cursor) (mark : Quad) (o : Outcome) → Waits l v c mark → Waits l (called Left o v) c mark
@@ -154,7 +163,7 @@ module _ (l : Listing) (ascending : strictlyAscends quadBelow (l .quads) ≡ tru
 
   tells-finished : (ask : Ask) (v : Opening) (c : Cursor) (o : Outcome) → Finished l v c → hasEnded (called ask o v) ≡ true → left l (called ask o v) ≡ left l v → given (called ask o v) ≡ given v → Finished l (called ask o v) c
   tells-finished ask v c o h done same count =
-      record { pattern = h .pattern; done = done; rest = same ∙ h .rest; count = h .count ∙ ap (λ qs. capped (length qs)) (sym count); }
+      record { pattern = h .pattern; done = done; rest = same ∙ h .rest; count = h .count ∙ ap (λ qs. capped (length qs)) (sym count) }
 
   ended-left : (v : Opening) (o : Outcome) → hasEnded v ≡ true → hasEnded (called Left o v) ≡ true
   unfolding endedBy
@@ -195,9 +204,10 @@ module _ (l : Listing) (ascending : strictlyAscends quadBelow (l .quads) ≡ tru
           → (cond b (refused 24) jumps ≡ dueIn l w (Seek to)) × Stands l (goes w (Seek to) (cond b (refused 24) jumps)) (cond b c (cursorOf (Waiting to) p n))
       go true f = (sym (due true f) ∙ ap (λ z. dueIn l z (Seek to)) (sym e), (v, e, h))
       go false f =
-          let step = seek-on v p n mark to jumps h f in
-          (ap (λ qs. counted (capped (length qs))) (step .0) ∙ sym (due false f) ∙ ap (λ z. dueIn l z (Seek to)) (sym e),
-          (called (Seek to) jumps v, ap (withCall (Seek to) jumps) e, step .1))
+          let step = seek-on v p n mark to jumps h f in (
+            ap (λ qs. counted (capped (length qs))) (step .0) ∙ sym (due false f) ∙ ap (λ z. dueIn l z (Seek to)) (sym e),
+            (called (Seek to) jumps v, ap (withCall (Seek to) jumps) e, step .1),
+          )
 
   -- by the state and what is asked
   pub cursor-follows : (w : Option Opening) (s : State) (p : Pattern) (n : ℕ) (ask : Ask) → StandsIn l w (cursorOf s p n) s → CursorFollows l w (cursorOf s p n) ask
@@ -210,18 +220,27 @@ module _ (l : Listing) (ascending : strictlyAscends quadBelow (l .quads) ≡ tru
   cursor-follows w (Waiting mark) p n Next h = waiting-next w (h .0) p n mark (h .1) (h .2)
   cursor-follows w (Waiting mark) p n (Seek to) h = waiting-seek w (h .0) p n mark to (h .1) (h .2)
   cursor-follows w (Waiting mark) p n Left h =
-      let rest : notBelow mark (matching l p) ≡ left l (h .0) = sym (h .2 .rest ∙ ap (λ r. notBelow mark (matching l r)) (h .2 .pattern)) in
-      (ap (λ qs. counted (capped (length qs))) rest ∙ ap (λ z. dueIn l z Left) (sym (h .1)),
-      (called Left (counted (capped (length (notBelow mark (matching l p))))) (h .0), ap (withCall Left (counted (capped (length (notBelow mark (matching l p)))))) (h .1), tells-waits (h .0) (cursorOf (Waiting mark) p n) mark _ (h .2)))
+      let rest : notBelow mark (matching l p) ≡ left l (h .0) = sym (h .2 .rest ∙ ap (λ r. notBelow mark (matching l r)) (h .2 .pattern)) in (
+        ap (λ qs. counted (capped (length qs))) rest ∙ ap (λ z. dueIn l z Left) (sym (h .1)),
+        (called Left (counted (capped (length (notBelow mark (matching l p))))) (h .0), ap (withCall Left (counted (capped (length (notBelow mark (matching l p)))))) (h .1), tells-waits (h .0) (cursorOf (Waiting mark) p n) mark _ (h .2)),
+      )
   cursor-follows w (Waiting mark) p n Close h = (ap counted (h .2 .count) ∙ ap (λ z. dueIn l z Close) (sym (h .1)), refl)
   cursor-follows w Ended p n (Open q) h = (ap (λ z. dueIn l z (Open q)) (sym (h .1)), h)
-  cursor-follows w Ended p n Next h =
-      (ap (λ qs. gaveOr (foremost qs)) (sym (h .2 .rest)) ∙ ap (λ z. dueIn l z Next) (sym (h .1)),
-      (called Next ended (h .0), ap (withCall Next ended) (h .1),
-      tells-finished Next (h .0) (cursorOf Ended p n) ended (h .2) (ended-next (h .0)) (quiet-left l (h .0) Next ended refl (λ q. refl)) (quiet-given l (h .0) Next ended refl)))
+  cursor-follows w Ended p n Next h = (
+    ap (λ qs. gaveOr (foremost qs)) (sym (h .2 .rest)) ∙ ap (λ z. dueIn l z Next) (sym (h .1)),
+    (
+      called Next ended (h .0),
+      ap (withCall Next ended) (h .1),
+      tells-finished Next (h .0) (cursorOf Ended p n) ended (h .2) (ended-next (h .0)) (quiet-left l (h .0) Next ended refl (λ q. refl)) (quiet-given l (h .0) Next ended refl),
+    ),
+  )
   cursor-follows w Ended p n (Seek to) h = (sym (cond-true (hasEnded (h .0)) _ _ (h .2 .done)) ∙ ap (λ z. dueIn l z (Seek to)) (sym (h .1)), h)
-  cursor-follows w Ended p n Left h =
-      (ap counted (capped-zero ∙ ap (λ qs. capped (length qs)) (sym (h .2 .rest))) ∙ ap (λ z. dueIn l z Left) (sym (h .1)),
-      (called Left (counted 0) (h .0), ap (withCall Left (counted 0)) (h .1),
-      tells-finished Left (h .0) (cursorOf Ended p n) (counted 0) (h .2) (ended-left (h .0) (counted 0) (h .2 .done)) (quiet-left l (h .0) Left (counted 0) refl (λ q. refl)) (quiet-given l (h .0) Left (counted 0) refl)))
+  cursor-follows w Ended p n Left h = (
+    ap counted (capped-zero ∙ ap (λ qs. capped (length qs)) (sym (h .2 .rest))) ∙ ap (λ z. dueIn l z Left) (sym (h .1)),
+    (
+      called Left (counted 0) (h .0),
+      ap (withCall Left (counted 0)) (h .1),
+      tells-finished Left (h .0) (cursorOf Ended p n) (counted 0) (h .2) (ended-left (h .0) (counted 0) (h .2 .done)) (quiet-left l (h .0) Left (counted 0) refl (λ q. refl)) (quiet-given l (h .0) Left (counted 0) refl),
+    ),
+  )
   cursor-follows w Ended p n Close h = (ap counted (h .2 .count) ∙ ap (λ z. dueIn l z Close) (sym (h .1)), refl)

@@ -94,7 +94,7 @@ module _ (l : Listing) (ascending : strictlyAscends quadBelow (l .quads) ≡ tru
 
   listed-fresh : (p : Pattern) → Listed l (record { pattern = p; calls = [] })
   unfolding givenBy
-  listed-fresh p = record { matches = refl; ascends = refl; unjumped = refl; leastFirst = left-ascends (record { pattern = p; calls = [] }); above = refl; }
+  listed-fresh p = record { matches = refl; ascends = refl; unjumped = refl; leastFirst = left-ascends (record { pattern = p; calls = [] }); above = refl }
 
   listed-quiet : (v : Opening) (ask : Ask) (o : Outcome) → nextGave ask o ≡ [] → ((q : Quad) → seeksPast ask q ≡ false) → Listed l v → Listed l (called ask o v)
   unfolding jumpedBy

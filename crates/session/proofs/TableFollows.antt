@@ -125,24 +125,26 @@ module _ (l : Listing) (ascending : strictlyAscends quadBelow (l .quads) ≡ tru
   keeps-asked h t k ask b keeps =
       let c = cursorAt t k in
       let o = cursorOutcome l c ask in
-      let step = cursor-follows l ascending ids (openingOf k h) (c .state) (c .pattern) (c .given) ask (keeps .cursors k b) in
-      (step .0, record {
-        cursors = λ j m.
-            ⊎-elim
-            (λ e.
-            let here : getD (set (t .cursors) k (cursorAfter l c ask)) j closed ≡ cursorAfter l c ask =
-                ap (λ i. getD (set (t .cursors) k (cursorAfter l c ask)) i closed) e ∙ getD-set-same (t .cursors) k (cursorAfter l c ask) closed (omega (arith, keeps .eight)) in
-            let named : openingOf j (event (On k ask) o ∷ h) ≡ goes (openingOf k h) ask o =
-                ap (λ t′. cond (t′ && granted o) (afterGranted ask o (openingOf j h)) (openingOf j h)) (eq-eqb k j (sym e)) ∙ ap (λ i. goes (openingOf i h) ask o) e in
-            subst (λ w. Stands l w (getD (set (t .cursors) k (cursorAfter l c ask)) j closed)) (sym named) (subst (λ d. Stands l (goes (openingOf k h) ask o) d) (sym here) (step .1)))
-            (λ n.
-            let there : getD (set (t .cursors) k (cursorAfter l c ask)) j closed ≡ cursorAt t j = getD-set-other (t .cursors) k j (cursorAfter l c ask) closed n in
-            let other : openingOf j (event (On k ask) o ∷ h) ≡ openingOf j h = cond-false (eqb k j && granted o) _ _ (and-left _ _ (ne-eqb k j (λ e. n (sym e)))) in
-            subst (λ w. Stands l w (getD (set (t .cursors) k (cursorAfter l c ask)) j closed)) (sym other) (subst (λ d. Stands l (openingOf j h) d) (sym there) (keeps .cursors j m)))
-            (cases-eq j k);
-        tally = tallied-gave l (c .state) (c .pattern) (c .given) ask (t .given) (givenSince h) (keeps .tally);
-        eight = length-set (t .cursors) k (cursorAfter l c ask) ∙ keeps .eight;
-      })
+      let step = cursor-follows l ascending ids (openingOf k h) (c .state) (c .pattern) (c .given) ask (keeps .cursors k b) in (
+        step .0,
+        record {
+          cursors = λ j m.
+              ⊎-elim
+              (λ e.
+              let here : getD (set (t .cursors) k (cursorAfter l c ask)) j closed ≡ cursorAfter l c ask =
+              ap (λ i. getD (set (t .cursors) k (cursorAfter l c ask)) i closed) e ∙ getD-set-same (t .cursors) k (cursorAfter l c ask) closed (omega (arith, keeps .eight)) in
+              let named : openingOf j (event (On k ask) o ∷ h) ≡ goes (openingOf k h) ask o =
+              ap (λ t′. cond (t′ && granted o) (afterGranted ask o (openingOf j h)) (openingOf j h)) (eq-eqb k j (sym e)) ∙ ap (λ i. goes (openingOf i h) ask o) e in
+              subst (λ w. Stands l w (getD (set (t .cursors) k (cursorAfter l c ask)) j closed)) (sym named) (subst (λ d. Stands l (goes (openingOf k h) ask o) d) (sym here) (step .1)))
+              (λ n.
+              let there : getD (set (t .cursors) k (cursorAfter l c ask)) j closed ≡ cursorAt t j = getD-set-other (t .cursors) k j (cursorAfter l c ask) closed n in
+              let other : openingOf j (event (On k ask) o ∷ h) ≡ openingOf j h = cond-false (eqb k j && granted o) _ _ (and-left _ _ (ne-eqb k j (λ e. n (sym e)))) in
+              subst (λ w. Stands l w (getD (set (t .cursors) k (cursorAfter l c ask)) j closed)) (sym other) (subst (λ d. Stands l (openingOf j h) d) (sym there) (keeps .cursors j m)))
+              (cases-eq j k);
+          tally = tallied-gave l (c .state) (c .pattern) (c .given) ask (t .given) (givenSince h) (keeps .tally);
+          eight = length-set (t .cursors) k (cursorAfter l c ask) ∙ keeps .eight;
+        },
+      )
 
   pub ask-follows : (t : Table) (k : ℕ) (ask : Ask) → Follows l t (On k ask) (askOutcome l t k ask) (askAfter l t k ask)
   ask-follows t k ask h keeps = go (ltb 7 k) refl
@@ -158,6 +160,11 @@ module _ (l : Listing) (ascending : strictlyAscends quadBelow (l .quads) ≡ tru
           × Keeps l (event (On k ask) (cond b (refused 11) (cond (asksOnlyIds ask) (cursorOutcome l (cursorAt t k) ask) (refused 12))) ∷ h) (cond b t (cond (asksOnlyIds ask) (asked l t k ask) t))
       go true e = (refl, keeps-refused l h t k ask 11 keeps)
       go false e = input (asksOnlyIds ask) refl e
+
+  -- the same of what a call answered and left, where it is this
+  pub ask-law : (t after : Table) (k : ℕ) (ask : Ask) (o : Outcome) → o ≡ askOutcome l t k ask → after ≡ askAfter l t k ask → Follows l t (On k ask) o after
+  ask-law t after k ask o answer then =
+      subst (λ u. Follows l t (On k ask) o u) (sym then) (subst (λ x. Follows l t (On k ask) x (askAfter l t k ask)) (sym answer) (ask-follows t k ask))
 
 -- asking what is left changes nothing
 left-stays : (l : Listing) (c : Cursor) (s : State) → afterIn l c s Left ≡ c
@@ -235,6 +242,7 @@ due-roll l h t before after (Err r) keeps long answer wrote =
 pub roll-follows : (l : Listing) (t : Table) (before after : List ℕ) (r : Result ℕ Refusal) → length after ≡ length before
     → ofCount r ≡ rollOutcome t (length before) → RollWrote t before after r → Follows l t (Roll (length before)) (ofRoll r after) t
 unfolding openingOf givenSince
-roll-follows l t before after r long answer wrote h keeps =
-    (due-roll l h t before after r keeps long answer wrote,
-    keeps-same l h t (Roll (length before)) (ofRoll r after) keeps (λ k. refl) (add-zero (givenSince h)))
+roll-follows l t before after r long answer wrote h keeps = (
+  due-roll l h t before after r keeps long answer wrote,
+  keeps-same l h t (Roll (length before)) (ofRoll r after) keeps (λ k. refl) (add-zero (givenSince h)),
+)

@@ -1,10 +1,12 @@
 // Writing the numbers of the open cursors.
-ghost use Rattle.session.specs.Rolls.{isOpen, isOpenAt, openCursors};
+ghost use Rattle.session.specs.Rolls.{isOpen, isOpenAt, openCursors, rollOutcome, RollWrote};
+ghost use Rattle.session.specs.Outcomes.{ofCount};
 ghost use Prim.Native.Nat.{_≤_, _<_};
 ghost use lib.ListN.{length, take, drop};
 ghost use mathlib.Core.Path.{_≡_};
 use crate::cursor::State;
 use crate::cursor::Table;
+use crate::refusal::Refusal;
 
 impl State {
     fn is_open(self) -> bool
@@ -26,7 +28,7 @@ impl Table {
     }
 
     // How many cursors are open.
-    pub(crate) fn count_open(&self) -> usize
+    fn count_open(&self) -> usize
         ensures { λ r. ⌜ r ≡ length (openCursors (now (self .entry))) ⌝ }
     {
         let mut count = 0;
@@ -39,7 +41,7 @@ impl Table {
     }
 
     // Writes the numbers of the open cursors at the front of the buffer, and answers how many.
-    pub(crate) fn write_open(&self, buffer: &mut [u32]) -> usize
+    fn write_open(&self, buffer: &mut [u32]) -> usize
         requires { ⌜ length (openCursors (now self)) ≤ length (now buffer) ⌝ }
         ensures count { λ r. ⌜ r ≡ length (openCursors (now (self .entry))) ⌝ }
         ensures front { λ r. ⌜ take r (now (buffer .exit)) ≡ openCursors (now (self .entry)) ⌝ }
@@ -53,5 +55,16 @@ impl Table {
             }
         }
         count
+    }
+
+    // Writes the numbers of the open cursors where there is room for them, and answers how many.
+    pub(crate) fn roll(&self, buffer: &mut [u32]) -> Result<usize, Refusal>
+        ensures answer { λ r. ⌜ ofCount r ≡ rollOutcome (now (self .entry)) (length (now (buffer .entry))) ⌝ }
+        ensures wrote { λ r. ⌜ RollWrote (now (self .entry)) (now (buffer .entry)) (now (buffer .exit)) r ⌝ }
+    {
+        if buffer.len() < self.count_open() {
+            return Err(Refusal::BufferShort);
+        }
+        Ok(self.write_open(buffer))
     }
 }

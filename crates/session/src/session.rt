@@ -1,15 +1,16 @@
 // The session: a source and its eight cursors, and the calls on them. No call has anything for its caller to test
 // beforehand, and one that is turned down changes nothing.
-ghost use Rattle.session.specs.Outcomes.{ofOpen, ofNext, ofCount};
+ghost use Rattle.session.specs.Keeps.{Keeps, Follows};
+ghost use Rattle.session.specs.Outcomes.{counted, ofOpen, ofNext, ofCount, ofRoll};
 ghost use Rattle.session.specs.Rolls.{rollOutcome, RollWrote};
 ghost use Rattle.session.specs.Tables.{askOutcome, askAfter, newTable};
 ghost use Rattle.session.specs.declared.call.Ask.the-variants.{Open, Next, Seek, Left, Close};
+ghost use Rattle.session.specs.declared.call.Call.the-variants.{On, Tally, Roll};
 ghost use Rattle.std.specs.Results.{isOk};
 ghost use lib.ListN.{length};
 ghost use mathlib.Core.Bool.{false};
+ghost use mathlib.Core.List.{[]};
 ghost use mathlib.Core.Path.{_≡_};
-use crate::call::Ask;
-use crate::call::Reply;
 use crate::cursor::Table;
 use crate::refusal::Refusal;
 use quads::Mark;
@@ -29,6 +30,7 @@ impl<'a, S: QuadSource> Session<'a, S> {
     pub fn attach(source: &'a S) -> Session<'a, S>
         ensures source { λ r. ⌜ now (r .source) ≡ now (source .entry) ⌝ }
         ensures closed { λ r. ⌜ r .table ≡ newTable ⌝ }
+        ensures law { λ r. ⌜ Keeps (means (now (source .entry))) [] (r .table) ⌝ }
     {
         Session {
             source,
@@ -42,9 +44,9 @@ impl<'a, S: QuadSource> Session<'a, S> {
         ensures after { λ _. ⌜ now (self .exit) .table ≡ askAfter (means (now (now (self .entry) .source))) (now (self .entry) .table) cursor (Open pattern) ⌝ }
         ensures source { λ _. ⌜ now (now (self .exit) .source) ≡ now (now (self .entry) .source) ⌝ }
         ensures kept { λ r. ⌜ (isOk r ≡ false → now (self .exit) .table ≡ now (self .entry) .table) ⌝ }
+        ensures law { λ r. ⌜ Follows (means (now (now (self .entry) .source))) (now (self .entry) .table) (On cursor (Open pattern)) (ofOpen r) (now (self .exit) .table) ⌝ }
     {
-        self.table.ask(self.source, cursor, Ask::Open(pattern))?;
-        Ok(())
+        self.table.open(self.source, cursor, pattern)
     }
 
     // Gives the next quad that matches, or none where all were given or jumped.
@@ -53,11 +55,9 @@ impl<'a, S: QuadSource> Session<'a, S> {
         ensures after { λ _. ⌜ now (self .exit) .table ≡ askAfter (means (now (now (self .entry) .source))) (now (self .entry) .table) cursor Next ⌝ }
         ensures source { λ _. ⌜ now (now (self .exit) .source) ≡ now (now (self .entry) .source) ⌝ }
         ensures kept { λ r. ⌜ (isOk r ≡ false → now (self .exit) .table ≡ now (self .entry) .table) ⌝ }
+        ensures law { λ r. ⌜ Follows (means (now (now (self .entry) .source))) (now (self .entry) .table) (On cursor Next) (ofNext r) (now (self .exit) .table) ⌝ }
     {
-        match self.table.ask(self.source, cursor, Ask::Next)? {
-            Reply::Gave(quad) => Ok(Some(quad)),
-            _ => Ok(None),
-        }
+        self.table.next(self.source, cursor)
     }
 
     // Moves the cursor's mark forward, or keeps it, and counts the quads that this newly jumps.
@@ -66,18 +66,17 @@ impl<'a, S: QuadSource> Session<'a, S> {
         ensures after { λ _. ⌜ now (self .exit) .table ≡ askAfter (means (now (now (self .entry) .source))) (now (self .entry) .table) cursor (Seek mark) ⌝ }
         ensures source { λ _. ⌜ now (now (self .exit) .source) ≡ now (now (self .entry) .source) ⌝ }
         ensures kept { λ r. ⌜ (isOk r ≡ false → now (self .exit) .table ≡ now (self .entry) .table) ⌝ }
+        ensures law { λ r. ⌜ Follows (means (now (now (self .entry) .source))) (now (self .entry) .table) (On cursor (Seek mark)) (ofCount r) (now (self .exit) .table) ⌝ }
     {
-        let reply = self.table.ask(self.source, cursor, Ask::Seek(mark))?;
-        Ok(reply.count())
+        self.table.seek(self.source, cursor, mark)
     }
 
     // Counts the quads that are left.
     pub fn left(&self, cursor: u32) -> Result<u32, Refusal>
-        ensures { λ r. ⌜ ofCount r ≡ askOutcome (means (now (now (self .entry) .source))) (now (self .entry) .table) cursor Left ⌝ }
+        ensures answer { λ r. ⌜ ofCount r ≡ askOutcome (means (now (now (self .entry) .source))) (now (self .entry) .table) cursor Left ⌝ }
+        ensures law { λ r. ⌜ Follows (means (now (now (self .entry) .source))) (now (self .entry) .table) (On cursor Left) (ofCount r) (now (self .entry) .table) ⌝ }
     {
-        let mut table = self.table;
-        let reply = table.ask(self.source, cursor, Ask::Left)?;
-        Ok(reply.count())
+        self.table.left(self.source, cursor)
     }
 
     // Closes an open cursor, and counts the quads that this opening gave.
@@ -86,14 +85,15 @@ impl<'a, S: QuadSource> Session<'a, S> {
         ensures after { λ _. ⌜ now (self .exit) .table ≡ askAfter (means (now (now (self .entry) .source))) (now (self .entry) .table) cursor Close ⌝ }
         ensures source { λ _. ⌜ now (now (self .exit) .source) ≡ now (now (self .entry) .source) ⌝ }
         ensures kept { λ r. ⌜ (isOk r ≡ false → now (self .exit) .table ≡ now (self .entry) .table) ⌝ }
+        ensures law { λ r. ⌜ Follows (means (now (now (self .entry) .source))) (now (self .entry) .table) (On cursor Close) (ofCount r) (now (self .exit) .table) ⌝ }
     {
-        let reply = self.table.ask(self.source, cursor, Ask::Close)?;
-        Ok(reply.count())
+        self.table.close(self.source, cursor)
     }
 
     // How many quads were given to all cursors since attaching.
     pub fn tally(&self) -> u32
-        ensures { λ r. ⌜ r ≡ now (self .entry) .table .given ⌝ }
+        ensures answer { λ r. ⌜ r ≡ now (self .entry) .table .given ⌝ }
+        ensures law { λ r. ⌜ Follows (means (now (now (self .entry) .source))) (now (self .entry) .table) Tally (counted r) (now (self .entry) .table) ⌝ }
     {
         self.table.given
     }
@@ -102,10 +102,8 @@ impl<'a, S: QuadSource> Session<'a, S> {
     pub fn roll(&self, buffer: &mut [u32]) -> Result<usize, Refusal>
         ensures answer { λ r. ⌜ ofCount r ≡ rollOutcome (now (self .entry) .table) (length (now (buffer .entry))) ⌝ }
         ensures wrote { λ r. ⌜ RollWrote (now (self .entry) .table) (now (buffer .entry)) (now (buffer .exit)) r ⌝ }
+        ensures law { λ r. ⌜ Follows (means (now (now (self .entry) .source))) (now (self .entry) .table) (Roll (length (now (buffer .entry)))) (ofRoll r (now (buffer .exit))) (now (self .entry) .table) ⌝ }
     {
-        if buffer.len() < self.table.count_open() {
-            return Err(Refusal::BufferShort);
-        }
-        Ok(self.table.write_open(buffer))
+        self.table.roll(buffer)
     }
 }

@@ -1,6 +1,7 @@
 // The table of a session's eight cursors.
-ghost use Rattle.session.specs.Outcomes.{replied};
+ghost use Rattle.session.specs.Outcomes.{replied, ofOpen, ofNext, ofCount};
 ghost use Rattle.session.specs.Tables.{asksOnlyIds, askOutcome, askAfter, newTable};
+ghost use Rattle.session.specs.declared.call.Ask.the-variants.{Open, Next, Seek, Left, Close};
 ghost use Rattle.std.specs.Results.{isOk};
 ghost use mathlib.Core.Bool.{false};
 ghost use mathlib.Core.Path.{_≡_};
@@ -9,6 +10,9 @@ use crate::call::Ask;
 use crate::call::Reply;
 use crate::cursor::Table;
 use crate::refusal::Refusal;
+use quads::Mark;
+use quads::Pattern;
+use quads::Quad;
 use quads::QuadSource;
 use quads::one_more;
 
@@ -57,5 +61,65 @@ impl Table {
             self.given = one_more(self.given);
         }
         Ok(reply)
+    }
+
+    pub(crate) fn open<S: QuadSource>(
+        &mut self,
+        source: &S,
+        cursor: u32,
+        pattern: Pattern,
+    ) -> Result<(), Refusal>
+        ensures answer { λ r. ⌜ ofOpen r ≡ askOutcome (means (now (source .entry))) (now (self .entry)) cursor (Open pattern) ⌝ }
+        ensures after { λ _. ⌜ now (self .exit) ≡ askAfter (means (now (source .entry))) (now (self .entry)) cursor (Open pattern) ⌝ }
+        ensures kept { λ r. ⌜ (isOk r ≡ false → now (self .exit) ≡ now (self .entry)) ⌝ }
+    {
+        self.ask(source, cursor, Ask::Open(pattern))?;
+        Ok(())
+    }
+
+    pub(crate) fn next<S: QuadSource>(
+        &mut self,
+        source: &S,
+        cursor: u32,
+    ) -> Result<Option<Quad>, Refusal>
+        ensures answer { λ r. ⌜ ofNext r ≡ askOutcome (means (now (source .entry))) (now (self .entry)) cursor Next ⌝ }
+        ensures after { λ _. ⌜ now (self .exit) ≡ askAfter (means (now (source .entry))) (now (self .entry)) cursor Next ⌝ }
+        ensures kept { λ r. ⌜ (isOk r ≡ false → now (self .exit) ≡ now (self .entry)) ⌝ }
+    {
+        match self.ask(source, cursor, Ask::Next)? {
+            Reply::Gave(quad) => Ok(Some(quad)),
+            _ => Ok(None),
+        }
+    }
+
+    pub(crate) fn seek<S: QuadSource>(
+        &mut self,
+        source: &S,
+        cursor: u32,
+        mark: Mark,
+    ) -> Result<u32, Refusal>
+        ensures answer { λ r. ⌜ ofCount r ≡ askOutcome (means (now (source .entry))) (now (self .entry)) cursor (Seek mark) ⌝ }
+        ensures after { λ _. ⌜ now (self .exit) ≡ askAfter (means (now (source .entry))) (now (self .entry)) cursor (Seek mark) ⌝ }
+        ensures kept { λ r. ⌜ (isOk r ≡ false → now (self .exit) ≡ now (self .entry)) ⌝ }
+    {
+        let reply = self.ask(source, cursor, Ask::Seek(mark))?;
+        Ok(reply.count())
+    }
+
+    pub(crate) fn left<S: QuadSource>(&self, source: &S, cursor: u32) -> Result<u32, Refusal>
+        ensures answer { λ r. ⌜ ofCount r ≡ askOutcome (means (now (source .entry))) (now (self .entry)) cursor Left ⌝ }
+    {
+        let mut copy = *self;
+        let reply = copy.ask(source, cursor, Ask::Left)?;
+        Ok(reply.count())
+    }
+
+    pub(crate) fn close<S: QuadSource>(&mut self, source: &S, cursor: u32) -> Result<u32, Refusal>
+        ensures answer { λ r. ⌜ ofCount r ≡ askOutcome (means (now (source .entry))) (now (self .entry)) cursor Close ⌝ }
+        ensures after { λ _. ⌜ now (self .exit) ≡ askAfter (means (now (source .entry))) (now (self .entry)) cursor Close ⌝ }
+        ensures kept { λ r. ⌜ (isOk r ≡ false → now (self .exit) ≡ now (self .entry)) ⌝ }
+    {
+        let reply = self.ask(source, cursor, Ask::Close)?;
+        Ok(reply.count())
     }
 }

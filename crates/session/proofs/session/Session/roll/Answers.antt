@@ -1,24 +1,9 @@
-use mathlib.Core.Path.{refl, sym, ap, _∙_}
-use Prim.Native.Nat.{_<_, _≤_}
 use native.Mathlib.Omega.{arith}
-use lib.ListN.{length}
-use Rattle.std.proofs.shelf.Tests.{cond-true, cond-false, lt-ltb, le-ltb}
-use Rattle.session.specs.Outcomes.{counted}
-use Rattle.session.specs.Rolls.{rollOutcome, occurrences, openCursors}
-use Rattle.session.proofs.Rolls.{open-once}
+use Rattle.session.proofs.TableFollows.{roll-follows}
 use Rattle.session.proofs.session.Session.roll.Needs as need
 
-pub returns-then-buffer-count-open : need.returns-then-buffer-count-open
-unfolding rollOutcome
-returns-then-buffer-count-open g c =
-    let short : length (c .args .buffer .now) < length (openCursors (c .args .self .now .table)) = omega (arith, c .count-open .ensures) in
-    record { answer = sym (cond-true _ _ _ (lt-ltb _ _ short)); wrote = refl }
-
 pub returns : need.returns
-unfolding rollOutcome
 returns g c =
-    let room : length (openCursors (c .args .self .now .table)) ≤ length (c .args .buffer .now) = omega (arith, c .count-open .ensures) in
-    record {
-      answer = ap counted (c .write-open .ensures .count) ∙ sym (cond-false _ _ _ (le-ltb _ _ room));
-      wrote = (λ k. ap (occurrences k) (c .write-open .ensures .front) ∙ open-once (c .args .self .now .table) k, c .write-open .ensures .rest);
-    }
+    let l = g .S·QuadSource .means (c .args .self .now .source .now) in
+    let told = c .roll .ensures in
+    record { answer = told .answer; wrote = told .wrote; law = roll-follows l (c .args .self .now .table) (c .args .buffer .now) _ _ (omega arith) (told .answer) (told .wrote) }
