@@ -6,9 +6,9 @@ use lib.ListN.{take, drop, replicate}
 use Rattle.session.specs.Histories.{Event, History}
 use Rattle.session.specs.Outcomes.{Outcome, opened, gave, ended, counted, rolled, refused, refusalNumber}
 use Rattle.session.specs.declared.call.Call.{Call}
-use Rattle.transcript.specs.declared.record.Answer.{Answer}
-use Rattle.transcript.specs.declared.record.Answer.the-variants.{Pending, Opened, Gave, End, Counted, Rolled, Refused}
-use Rattle.transcript.specs.declared.record.Record.{Record}
+use Rattle.transcript.specs.declared.entry.Answer.{Answer}
+use Rattle.transcript.specs.declared.entry.Answer.the-variants.{Pending, Opened, Gave, End, Counted, Rolled, Refused}
+use Rattle.transcript.specs.declared.entry.Record.{Record}
 
 -- the number and the values of each answer; no call comes to what a call that is not yet asked tells, since no refusal has
 -- the number 0

@@ -1,6 +1,9 @@
 // Transcripts: a session taken through a list of calls, each written down with its answer.
-mod make;
-mod record;
+mod calls;
+mod entry;
+mod runs;
 
-pub use record::Answer;
-pub use record::Record;
+pub use entry::Answer;
+pub use entry::Record;
+pub use runs::run;
+pub use runs::run_twice;

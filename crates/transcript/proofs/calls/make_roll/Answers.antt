@@ -5,7 +5,7 @@ use native.Mathlib.Omega.{arith}
 use lib.ListN.{length, take, drop, replicate}
 use Rattle.std.proofs.shelf.Lists.{length-take, take-append-drop}
 use Rattle.transcript.proofs.Rolls.{roll-ok, roll-err, roll-rest}
-use Rattle.transcript.proofs.make.make_roll.Needs as need
+use Rattle.transcript.proofs.calls.make_roll.Needs as need
 
 zeros : List ℕ
 zeros = replicate 8 0
