@@ -4,6 +4,9 @@ use Prim.Native.Nat.{ℕ}
 use lib.Dec.{ltb, leb, eqb}
 use Rattle.quads.specs.declared.quad.Quad.{Quad}
 
+abbrev pub quadOf : ℕ → ℕ → ℕ → ℕ → Quad
+quadOf s p o g = record { s = s; p = p; o = o; g = g }
+
 -- an ID is a number from 1 to 1,048,576
 abbrev pub isId : ℕ → Bool
 isId n = leb 1 n && leb n 1048576

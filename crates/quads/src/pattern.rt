@@ -42,6 +42,14 @@ pub struct Pattern {
 }
 
 impl Pattern {
+    // The pattern that leaves every place open.
+    pub const ANY: Pattern = Pattern {
+        s: Place::Any,
+        p: Place::Any,
+        o: Place::Any,
+        g: Place::Any,
+    };
+
     // Whether the quad has the given number at each given place.
     pub fn matches(self, quad: Quad) -> bool
         ensures { λ r. ⌜ r ≡ matches self quad ⌝ }

@@ -1,5 +1,5 @@
 // Quads, IDs and marks, and the order of quads.
-ghost use Rattle.quads.specs.Quads.{isId, hasIds, quadBelow};
+ghost use Rattle.quads.specs.Quads.{isId, hasIds, quadBelow, quadOf};
 ghost use Rattle.quads.specs.QuadOrder.{quad-order};
 ghost use mathlib.Core.Path.{_≡_};
 use ordered::Ordered;
@@ -27,6 +27,13 @@ pub fn is_id(n: u32) -> bool
 }
 
 impl Quad {
+    // The quad, or the mark, of these four numbers.
+    pub const fn new(s: u32, p: u32, o: u32, g: u32) -> Quad
+        ensures { λ r. ⌜ r ≡ quadOf s p o g ⌝ }
+    {
+        Quad { s, p, o, g }
+    }
+
     // Whether all four numbers are IDs.
     pub fn has_ids(&self) -> bool
         ensures { λ r. ⌜ r ≡ hasIds (now (self .entry)) ⌝ }

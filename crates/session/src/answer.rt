@@ -17,7 +17,6 @@ use crate::refusal::Refusal;
 use ordered::Ordered;
 use quads::Mark;
 use quads::Pattern;
-use quads::Place;
 use quads::Quad;
 use quads::QuadOrdered;
 use quads::QuadSource;
@@ -33,12 +32,7 @@ const LOWEST: Mark = Quad {
 
 pub(crate) const CLOSED: Cursor = Cursor {
     state: State::Closed,
-    pattern: Pattern {
-        s: Place::Any,
-        p: Place::Any,
-        o: Place::Any,
-        g: Place::Any,
-    },
+    pattern: Pattern::ANY,
     given: 0,
 };
 

@@ -11,4 +11,7 @@ mod table;
 pub use call::Ask;
 pub use call::Call;
 pub use refusal::Refusal;
+pub use refusal::RefusalDebug;
+pub use refusal::RefusalPartialEq;
 pub use session::Session;
+pub use table::CURSORS;

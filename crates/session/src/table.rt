@@ -16,6 +16,9 @@ use quads::Quad;
 use quads::QuadSource;
 use quads::one_more;
 
+// How many cursors a session has; they are numbered from 0.
+pub const CURSORS: u32 = 8;
+
 impl Ask {
     // Whether every number that is given in it is an ID.
     fn gives_only_ids(self) -> bool
@@ -50,7 +53,7 @@ impl Table {
         ensures after { λ _. ⌜ now (self .exit) ≡ askAfter (means (now (source .entry))) (now (self .entry)) cursor ask ⌝ }
         ensures kept { λ r. ⌜ (isOk r ≡ false → now (self .exit) ≡ now (self .entry)) ⌝ }
     {
-        if cursor > 7 {
+        if cursor >= CURSORS {
             return Err(Refusal::NoSuchCursor);
         }
         if !ask.gives_only_ids() {

@@ -40,7 +40,7 @@ pub roll-room : (l : Listing) (t : Table) (room : ℕ) (o : Outcome) → Follows
 unfolding openingOf givenSince
 roll-room l t room o follows h keeps =
     let step = follows h keeps in
-    (due-room h room o (step .0), record { cursors = step .1 .cursors; tally = step .1 .tally; eight = step .1 .eight; })
+    (due-room h room o (step .0), record { cursors = step .1 .cursors; tally = step .1 .tally; eight = step .1 .eight })
 
 -- what was written fits
 pub roll-fits : (t : Table) (room n : ℕ) → counted n ≡ rollOutcome t room → n ≤ room
