@@ -105,16 +105,16 @@ impl Table {
         ensures after { λ _. ⌜ now (self .exit) ≡ askAfter (means (now (source .entry))) (now (self .entry)) cursor (Seek mark) ⌝ }
         ensures kept { λ r. ⌜ (isOk r ≡ false → now (self .exit) ≡ now (self .entry)) ⌝ }
     {
-        let reply = self.ask(source, cursor, Ask::Seek(mark))?;
-        Ok(reply.count())
+        let jumped = self.ask(source, cursor, Ask::Seek(mark))?;
+        Ok(jumped.count())
     }
 
     pub(crate) fn left<S: QuadSource>(&self, source: &S, cursor: u32) -> Result<u32, Refusal>
         ensures answer { λ r. ⌜ ofCount r ≡ askOutcome (means (now (source .entry))) (now (self .entry)) cursor Left ⌝ }
     {
         let mut copy = *self;
-        let reply = copy.ask(source, cursor, Ask::Left)?;
-        Ok(reply.count())
+        let left = copy.ask(source, cursor, Ask::Left)?;
+        Ok(left.count())
     }
 
     pub(crate) fn close<S: QuadSource>(&mut self, source: &S, cursor: u32) -> Result<u32, Refusal>
@@ -122,7 +122,7 @@ impl Table {
         ensures after { λ _. ⌜ now (self .exit) ≡ askAfter (means (now (source .entry))) (now (self .entry)) cursor Close ⌝ }
         ensures kept { λ r. ⌜ (isOk r ≡ false → now (self .exit) ≡ now (self .entry)) ⌝ }
     {
-        let reply = self.ask(source, cursor, Ask::Close)?;
-        Ok(reply.count())
+        let given = self.ask(source, cursor, Ask::Close)?;
+        Ok(given.count())
     }
 }
