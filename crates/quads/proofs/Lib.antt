@@ -1,3 +1,4 @@
 pub mod Faults
 pub mod Search
+pub mod Spans
 pub mod Marks

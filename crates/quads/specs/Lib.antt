@@ -1,8 +1,9 @@
-pub mod Quads
-pub mod QuadOrder
-pub mod Patterns
+pub mod Counts
 pub mod Listings
+pub mod Marks
+pub mod Patterns
 pub mod PlainLists
 pub mod PlainMeaning
-pub mod Counts
-pub mod Marks
+pub mod QuadOrder
+pub mod Quads
+pub mod Spans

@@ -6,6 +6,7 @@ mod plain;
 mod plain_source;
 mod quad;
 mod source;
+mod span;
 
 pub use check::ListRefusal;
 pub use check::ListRefusalDebug;
