@@ -17,6 +17,7 @@ fits (Given id) n = isId id && eqb n id
 unfoldable pub matches : Pattern → Quad → Bool
 matches p q = fits (p .s) (q .s) && fits (p .p) (q .p) && fits (p .o) (q .o) && fits (p .g) (q .g)
 
+-- the place is open, or gives an ID
 abbrev pub anyOrId : Place → Bool
 anyOrId Any = true
 anyOrId (Given id) = isId id

@@ -38,6 +38,7 @@ abbrev pub refusalPlace : ListRefusal → ℕ
 refusalPlace (NotAnId place) = place
 refusalPlace (NotAscending place) = place
 
+-- what the answer of a check tells
 abbrev pub verdict : {A : Type 0} → Result A ListRefusal → Verdict
 verdict (Ok x) = accepted
 verdict (Err r) = refused (refusalNumber r) (refusalPlace r)

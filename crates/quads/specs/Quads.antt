@@ -4,6 +4,7 @@ use Prim.Native.Nat.{ℕ}
 use lib.Dec.{ltb, leb, eqb}
 use Rattle.quads.specs.declared.quad.Quad.{Quad}
 
+-- the quad, or the mark, of these four numbers
 abbrev pub quadOf : ℕ → ℕ → ℕ → ℕ → Quad
 quadOf s p o g = record { s = s; p = p; o = o; g = g }
 

@@ -33,6 +33,7 @@ impl Place {
     }
 }
 
+// What is asked for: a place for each number of a quad.
 #[derive(Clone, Copy)]
 pub struct Pattern {
     pub s: Place,

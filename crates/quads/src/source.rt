@@ -9,6 +9,7 @@ use crate::pattern::Pattern;
 use crate::quad::Mark;
 use crate::quad::Quad;
 
+// A strictly ascending list of quads that can be asked, but not changed, through this.
 pub trait QuadSource {
     // The quads that the source lists.
     ghost means: { Self → Listing };

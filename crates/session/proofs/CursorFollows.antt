@@ -22,11 +22,11 @@ use Rattle.quads.specs.Marks.{lowest, rightAfter, between}
 use Rattle.quads.specs.declared.quad.Quad.{Quad}
 use Rattle.quads.specs.declared.pattern.Pattern.{Pattern}
 use Rattle.quads.proofs.Marks.{first-none, first-some, notBelow-sorted, notBelow-rightAfter}
-use Rattle.session.specs.Cursors.{closed, openedAt, gaveOr, advanced, soughtOutcome, sought, outcomeIn, afterIn, cursorOutcome, cursorAfter}
+use Rattle.session.specs.Cursors.{closed, openedAt, advanced, soughtOutcome, sought, outcomeIn, afterIn, cursorOutcome, cursorAfter}
 use Rattle.session.specs.Histories.{Granted, Opening, granted, withCall, afterGranted, given, givenBy, jumpedBy, left, newlyJumped, hasEnded, endedBy, markOf, markBy}
 use Rattle.session.specs.Keeps.{Waits, Finished, StandsIn, Stands}
 use Rattle.session.specs.Law.{dueIn}
-use Rattle.session.specs.Outcomes.{Outcome, opened, gave, ended, counted, refused}
+use Rattle.session.specs.Outcomes.{Outcome, opened, gave, ended, counted, refused, gaveOr}
 use Rattle.session.specs.declared.call.Ask.{Ask}
 use Rattle.session.specs.declared.call.Ask.the-variants.{Open, Next, Seek, Left, Close}
 use Rattle.session.specs.declared.cursor.Cursor.{Cursor}
@@ -85,8 +85,8 @@ module _ (l : Listing) (ascending : strictlyAscends quadBelow (l .quads) ≡ tru
     refl,
     record {
       pattern = refl;
-      going = refl;
-      place = refl;
+      unended = refl;
+      at = refl;
       rest = fresh-left l p ∙ sym (from-lowest (matching l p));
       count = capped-zero;
     },
@@ -117,8 +117,8 @@ module _ (l : Listing) (ascending : strictlyAscends quadBelow (l .quads) ≡ tru
         ap (λ qs. gaveOr (foremost qs)) (sym rest),
         record {
           pattern = h .pattern;
-          going = h .going;
-          place = refl;
+          unended = h .unended;
+          at = refl;
           rest =
               next-left l v q
               ∙ ap (kept-by (λ x. not (sameQuad x q))) rest
@@ -138,8 +138,8 @@ module _ (l : Listing) (ascending : strictlyAscends quadBelow (l .quads) ≡ tru
         ap (kept-by (λ q. quadBelow q to)) (sym rest),
         record {
           pattern = h .pattern;
-          going = h .going;
-          place = refl;
+          unended = h .unended;
+          at = refl;
           rest =
               seek-left l v to o
               ∙ ap (kept-by (λ x. not (quadBelow x to))) rest
@@ -155,8 +155,8 @@ module _ (l : Listing) (ascending : strictlyAscends quadBelow (l .quads) ≡ tru
   tells-waits v c mark o h =
       record {
         pattern = h .pattern;
-        going = h .going;
-        place = h .place;
+        unended = h .unended;
+        at = h .at;
         rest = quiet-left l v Left o refl (λ q. refl) ∙ h .rest;
         count = h .count ∙ ap (λ qs. capped (length qs)) (sym (quiet-given l v Left o refl));
       }
@@ -196,8 +196,8 @@ module _ (l : Listing) (ascending : strictlyAscends quadBelow (l .quads) ≡ tru
 
       due : (b : Bool) → quadBelow to mark ≡ b → dueIn l (Some v) (Seek to) ≡ cond b (refused 24) (counted (capped (length (newlyJumped l v to))))
       due b f =
-          cond-false (hasEnded v) _ _ (h .going)
-          ∙ ap (λ m. cond (quadBelow to m) (refused 24) (counted (capped (length (newlyJumped l v to))))) (h .place)
+          cond-false (hasEnded v) _ _ (h .unended)
+          ∙ ap (λ m. cond (quadBelow to m) (refused 24) (counted (capped (length (newlyJumped l v to))))) (h .at)
           ∙ ap (λ z. cond z (refused 24) (counted (capped (length (newlyJumped l v to))))) f
 
       go : (b : Bool) → quadBelow to mark ≡ b

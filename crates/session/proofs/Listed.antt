@@ -22,11 +22,10 @@ use Rattle.quads.specs.Listings.{Listing, matching}
 use Rattle.quads.specs.declared.quad.Quad.{Quad}
 use Rattle.quads.specs.declared.pattern.Pattern.{Pattern}
 use Rattle.quads.proofs.Marks.{matching-sorted}
-use Rattle.session.specs.Cursors.{gaveOr}
 use Rattle.session.specs.Histories.{Event, History, Granted, Opening, granted, withCall, afterGranted, afterCall, openingOf, has, given, givenBy, jumped, jumpedBy, seeksPast, nextGave, left}
 use Rattle.session.specs.Law.{dueIn, dueOn, Due, Answered, Listed, Law}
-use Rattle.session.specs.Tables.{asksOnlyIds}
-use Rattle.session.specs.Outcomes.{Outcome, opened, gave, ended, counted, rolled, refused}
+use Rattle.session.specs.Asks.{asksOnlyIds}
+use Rattle.session.specs.Outcomes.{Outcome, opened, gave, ended, counted, rolled, refused, gaveOr}
 use Rattle.session.specs.declared.call.Ask.{Ask}
 use Rattle.session.specs.declared.call.Ask.the-variants.{Open, Next, Seek, Left, Close}
 use Rattle.session.specs.declared.call.Call.{Call}

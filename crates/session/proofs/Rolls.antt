@@ -15,7 +15,8 @@ use Rattle.std.proofs.shelf.Elements.{kept-by-append}
 use Rattle.std.proofs.shelf.Lists.{map-id, append-nil, take-more-set, drop-set-lt, drop-drop}
 use Rattle.std.proofs.shelf.Sums.{sumBy-push}
 use Rattle.std.proofs.shelf.Tests.{cond-true, cond-false, cases-bool, cases-order, cases-lt, both-ways, eq-eqb, ne-eqb, and-left, le-ltb}
-use Rattle.session.specs.Rolls.{isOpen, isOpenAt, openCursors, occurrences}
+use Rattle.session.specs.Rolls.{isOpen, isOpenAt, openCursors}
+use Rattle.session.specs.Outcomes.{occurrences}
 use Rattle.session.specs.Tables.{cursorAt}
 use Rattle.session.specs.declared.cursor.Table.{Table}
 

@@ -23,13 +23,14 @@ use Rattle.quads.specs.Quads.{hasIds, quadBelow}
 use Rattle.quads.specs.Listings.{Listing, firstFrom}
 use Rattle.quads.specs.declared.quad.Quad.{Quad}
 use Rattle.quads.specs.declared.pattern.Pattern.{Pattern}
-use Rattle.session.specs.Cursors.{closed, gaveOr, outcomeIn, afterIn, cursorOutcome, cursorAfter}
+use Rattle.session.specs.Cursors.{closed, outcomeIn, afterIn, cursorOutcome, cursorAfter}
 use Rattle.session.specs.Histories.{Event, History, Opening, granted, afterGranted, afterCall, openingOf, nextGave, givenSince, isOpenIn}
 use Rattle.session.specs.Keeps.{Waits, Finished, StandsIn, Stands, Keeps, Follows}
 use Rattle.session.specs.Law.{dueIn, dueOn, Due, DueRoll, numberOpen}
-use Rattle.session.specs.Outcomes.{Outcome, opened, gave, ended, counted, rolled, refused, refusalNumber, ofCount, ofRoll}
-use Rattle.session.specs.Rolls.{isOpen, isOpenAt, openCursors, rollOutcome, RollWrote, occurrences}
-use Rattle.session.specs.Tables.{asksOnlyIds, newTable, cursorAt, tallied, askOutcome, asked, askAfter}
+use Rattle.session.specs.Outcomes.{Outcome, opened, gave, ended, counted, rolled, refused, refusalNumber, ofCount, ofRoll, gaveOr, occurrences}
+use Rattle.session.specs.Rolls.{isOpen, isOpenAt, openCursors, rollOutcome, RollWrote}
+use Rattle.session.specs.Asks.{asksOnlyIds}
+use Rattle.session.specs.Tables.{newTable, cursorAt, tallied, askOutcome, asked, askAfter}
 use Rattle.session.specs.declared.call.Ask.{Ask}
 use Rattle.session.specs.declared.call.Ask.the-variants.{Open, Next, Seek, Left, Close}
 use Rattle.session.specs.declared.call.Call.{Call}

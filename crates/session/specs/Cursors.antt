@@ -11,7 +11,7 @@ use Rattle.quads.specs.Marks.{lowest, rightAfter, between}
 use Rattle.quads.specs.declared.quad.Quad.{Quad}
 use Rattle.quads.specs.declared.pattern.Pattern.{Pattern}
 use Rattle.quads.specs.declared.pattern.Place.the-variants.{Any}
-use Rattle.session.specs.Outcomes.{Outcome, opened, gave, ended, counted, refused}
+use Rattle.session.specs.Outcomes.{Outcome, opened, ended, counted, refused, gaveOr}
 use Rattle.session.specs.declared.call.Ask.{Ask}
 use Rattle.session.specs.declared.call.Ask.the-variants.{Open, Next, Seek, Left, Close}
 use Rattle.session.specs.declared.cursor.Cursor.{Cursor}
@@ -25,11 +25,7 @@ closed = record { state = Closed; pattern = record { s = Any; p = Any; o = Any; 
 abbrev pub openedAt : Pattern → Cursor
 openedAt p = record { state = Waiting lowest; pattern = p; given = 0 }
 
--- next: the first quad from the mark on is given, or the listing has ended
-abbrev pub gaveOr : Option Quad → Outcome
-gaveOr (Some q) = gave q
-gaveOr None = ended
-
+-- next: the mark moves right after the quad that is given, or the cursor has ended
 abbrev pub advanced : Cursor → Option Quad → Cursor
 advanced c (Some q) = record { state = Waiting (rightAfter q); pattern = c .pattern; given = capped (c .given + 1) }
 advanced c None = record { state = Ended; pattern = c .pattern; given = c .given }

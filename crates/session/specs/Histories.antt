@@ -19,6 +19,7 @@ use Rattle.session.specs.declared.call.Ask.the-variants.{Open, Next, Seek, Lef
 use Rattle.session.specs.declared.call.Call.{Call}
 use Rattle.session.specs.declared.call.Call.the-variants.{On, Tally, Roll}
 
+-- a call on a session, and what came of it
 pub record Event : Type 0 where
   pub call : Call
   pub outcome : Outcome
@@ -46,6 +47,7 @@ pub record Opening : Type 0 where
   pub pattern : Pattern
   pub calls : List Granted
 
+-- one more call in the opening, if there is one
 abbrev pub withCall : Ask → Outcome → Option Opening → Option Opening
 withCall ask o None = None
 withCall ask o (Some w) = Some (record { pattern = w .pattern; calls = record { ask = ask; outcome = o } ∷ w .calls })
@@ -69,6 +71,7 @@ unfoldable pub openingOf : ℕ → History → Option Opening
 openingOf k [] = None
 openingOf k (e ∷ h) = afterCall k (e .call) (e .outcome) (openingOf k h)
 
+-- the quad stands in the list
 abbrev pub has : List Quad → Quad → Bool
 has [] q = false
 has (x ∷ xs) q = sameQuad q x || has xs q
@@ -94,6 +97,7 @@ givenBy (c ∷ cs) = givenBy cs ++ nextGave (c .ask) (c .outcome)
 abbrev pub given : Opening → List Quad
 given w = givenBy (w .calls)
 
+-- a seek names a mark above the quad
 abbrev pub seeksPast : Ask → Quad → Bool
 seeksPast (Open p) q = false
 seeksPast Next q = false
@@ -117,6 +121,7 @@ left l w = kept-by (λ q. not (has (given w) q) && not (jumped w q)) (matching l
 unfoldable pub newlyJumped : Listing → Opening → Quad → List Quad
 newlyJumped l w mark = kept-by (λ q. quadBelow q mark) (left l w)
 
+-- a next answered end
 abbrev pub saysEnd : Ask → Outcome → Bool
 saysEnd (Open p) o = false
 saysEnd Next opened = false
@@ -137,6 +142,7 @@ endedBy (c ∷ cs) = saysEnd (c .ask) (c .outcome) || endedBy cs
 abbrev pub hasEnded : Opening → Bool
 hasEnded w = endedBy (w .calls)
 
+-- how a call moves the cursor's mark
 abbrev pub markAfterNext : Outcome → Quad → Quad
 markAfterNext opened mark = mark
 markAfterNext (gave q) mark = rightAfter q
@@ -160,12 +166,13 @@ markBy (c ∷ cs) = markAfter (c .ask) (c .outcome) (markBy cs)
 abbrev pub markOf : Opening → Quad
 markOf w = markBy (w .calls)
 
--- how many quads the nexts of all cursors answered since attaching
+-- how many quads a call gave: one or none
 abbrev pub givenIn : Call → Outcome → ℕ
 givenIn (On k ask) o = length (nextGave ask o)
 givenIn Tally o = 0
 givenIn (Roll room) o = 0
 
+-- how many quads were given since attaching: the nexts of all openings of all cursors, added up
 unfoldable pub givenSince : History → ℕ
 givenSince [] = 0
 givenSince (e ∷ h) = givenSince h + givenIn (e .call) (e .outcome)
@@ -174,12 +181,12 @@ givenSince (e ∷ h) = givenSince h + givenIn (e .call) (e .outcome)
 unfoldable pub isOpenIn : History → ℕ → Bool
 isOpenIn h k = ltb k 8 && isSome (openingOf k h)
 
--- what was asked of a cursor, the newest first, and what came of it, whatever stands between
 abbrev pub asksIn : ℕ → Call → List Ask
 asksIn k (On j ask) = cond (eqb j k) (ask ∷ []) []
 asksIn k Tally = []
 asksIn k (Roll room) = []
 
+-- what was asked of a cursor, the newest first, whatever stands between
 unfoldable pub asksOf : ℕ → History → List Ask
 asksOf k [] = []
 asksOf k (e ∷ h) = asksIn k (e .call) ++ asksOf k h
@@ -189,6 +196,7 @@ answersIn k (On j ask) o = cond (eqb j k) (o ∷ []) []
 answersIn k Tally o = []
 answersIn k (Roll room) o = []
 
+-- and what came of it
 unfoldable pub answersOf : ℕ → History → List Outcome
 answersOf k [] = []
 answersOf k (e ∷ h) = answersIn k (e .call) (e .outcome) ++ answersOf k h

@@ -23,8 +23,8 @@ use Rattle.session.specs.declared.cursor.Table.{Table}
 -- a cursor waiting at a mark: what is left of its opening are the matching quads from there on
 pub record Waits (l : Listing) (w : Opening) (c : Cursor) (mark : Quad) : Type 0 where
   pub pattern : w .pattern ≡ c .pattern
-  pub going : hasEnded w ≡ false
-  pub place : markOf w ≡ mark
+  pub unended : hasEnded w ≡ false
+  pub at : markOf w ≡ mark
   pub rest : left l w ≡ notBelow mark (matching l (w .pattern))
   pub count : c .given ≡ capped (length (given w))
 
@@ -35,6 +35,7 @@ pub record Finished (l : Listing) (w : Opening) (c : Cursor) : Type 0 where
   pub rest : left l w ≡ []
   pub count : c .given ≡ capped (length (given w))
 
+-- a cursor stands as its opening tells: closed where it is in none, and else waiting or ended
 abbrev pub StandsIn : Listing → Option Opening → Cursor → State → Type 0
 StandsIn l w c Closed = w ≡ None
 StandsIn l w c (Waiting mark) = (v : Opening) × (w ≡ Some v) × Waits l v c mark
@@ -43,7 +44,8 @@ StandsIn l w c Ended = (v : Opening) × (w ≡ Some v) × Finished l v c
 abbrev pub Stands : Listing → Option Opening → Cursor → Type 0
 Stands l w c = StandsIn l w c (c .state)
 
--- the session with this table keeps to this history
+-- the session with this table keeps to this history: each of the eight cursors stands as its opening tells, and as many
+-- quads were given
 pub record Keeps (l : Listing) (h : History) (t : Table) : Type 0 where
   pub cursors : (k : ℕ) → k < 8 → Stands l (openingOf k h) (cursorAt t k)
   pub tally : t .given ≡ capped (givenSince h)

@@ -15,18 +15,18 @@ use Rattle.quads.specs.Counts.{capped}
 use Rattle.quads.specs.Quads.{quadBelow}
 use Rattle.quads.specs.Listings.{Listing, matching}
 use Rattle.quads.specs.declared.quad.Quad.{Quad}
-use Rattle.session.specs.Cursors.{gaveOr}
+use Rattle.session.specs.Asks.{asksOnlyIds}
 use Rattle.session.specs.Histories.{Event, History, Opening, openingOf, has, given, jumped, left, newlyJumped, hasEnded, markOf, givenSince, isOpenIn, asksOf, answersOf}
-use Rattle.session.specs.Outcomes.{Outcome, opened, gave, ended, counted, rolled, refused}
-use Rattle.session.specs.Rolls.{occurrences}
-use Rattle.session.specs.Tables.{asksOnlyIds}
+use Rattle.session.specs.Outcomes.{Outcome, opened, gave, ended, counted, rolled, refused, gaveOr, occurrences}
 use Rattle.session.specs.declared.call.Ask.{Ask}
 use Rattle.session.specs.declared.call.Ask.the-variants.{Open, Next, Seek, Left, Close}
 use Rattle.session.specs.declared.call.Call.{Call}
 use Rattle.session.specs.declared.call.Call.the-variants.{On, Tally, Roll}
 
--- what a cursor in an opening, or in none, has to answer: next the least quad left, or end exactly if none is left; left,
--- seek and close the numbers left, newly jumped and given by this opening
+-- what has to come of asking a cursor that is in this opening, or in none. Closed, it refuses all but open, with 21; open,
+-- it refuses open with 22. Next gives the least quad left, and ends exactly if none is left; left, seek and close answer the
+-- numbers left, newly jumped and given by this opening, as counts are answered; seek refuses with 23 once the opening has
+-- ended, and with 24 a mark below the cursor's
 abbrev pub dueIn : Listing → Option Opening → Ask → Outcome
 dueIn l None (Open p) = opened
 dueIn l None Next = refused 21
@@ -39,7 +39,7 @@ dueIn l (Some w) (Seek mark) = cond (hasEnded w) (refused 23) (cond (quadBelow m
 dueIn l (Some w) Left = counted (capped (length (left l w)))
 dueIn l (Some w) Close = counted (capped (length (given w)))
 
--- the input is tried first
+-- the input is tried first: 11 for a cursor above 7, then 12 for a given number that is no ID
 abbrev pub dueOn : Listing → ℕ → Option Opening → Ask → Outcome
 dueOn l k w ask = cond (ltb 7 k) (refused 11) (cond (asksOnlyIds ask) (dueIn l w ask) (refused 12))
 
@@ -76,8 +76,9 @@ pub record Listed (l : Listing) (w : Opening) : Type 0 where
   pub leastFirst : strictlyAscends quadBelow (left l w) ≡ true
   pub above : each (λ q. each (quadBelow q) (left l w)) (given w) ≡ true
 
--- the law: every answer was due; at every time it was so of every open cursor; and whoever asks the same of a cursor, over
--- the same listing, has the same answers from it, whatever is asked of the others
+-- the law: every answer was due; at every earlier time too (the newest calls, `before` of them, taken away) the opening of
+-- every open cursor was as `Listed` says; and a cursor of which the same is asked, over the same listing, answers the same,
+-- whatever is asked of the others
 pub record Law (l : Listing) (h : History) : Type 0 where
   pub answered : Answered l h
   pub listed : (before k : ℕ) (w : Opening) → openingOf k (drop before h) ≡ Some w → Listed l w

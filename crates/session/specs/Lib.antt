@@ -1,3 +1,4 @@
+pub mod Asks
 pub mod Cursors
 pub mod Histories
 pub mod Keeps

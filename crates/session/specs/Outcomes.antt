@@ -1,7 +1,9 @@
 -- What a call comes to: which number and which values belong to each case of an answer. Assumes nothing.
 use mathlib.Core.List.{List}
 use Prim.Native.Nat.{ℕ}
+use lib.Dec.{eqb}
 use lib.ListN.{take}
+use Rattle.std.specs.shelf.Lists.{countBy}
 use Rattle.std.specs.declared.option.Option.{Option}
 use Rattle.std.specs.declared.option.Option.the-variants.{Some, None}
 use Rattle.std.specs.declared.result.Result.{Result}
@@ -21,6 +23,15 @@ pub data Outcome : Type 0 where
   counted : ℕ → Outcome
   rolled : ℕ → List ℕ → Outcome
   refused : ℕ → Outcome
+
+-- what a next comes to: this quad, or end where there is none
+abbrev pub gaveOr : Option Quad → Outcome
+gaveOr (Some q) = gave q
+gaveOr None = ended
+
+-- how often the number stands in the list
+abbrev pub occurrences : ℕ → List ℕ → ℕ
+occurrences k ns = countBy (eqb k) ns
 
 -- the number of each refusal
 abbrev pub refusalNumber : Refusal → ℕ
@@ -47,7 +58,7 @@ countOf (Gave q) = 0
 countOf End = 0
 countOf (Counted n) = n
 
--- the outcomes of the public calls: open, next, and those that count
+-- the outcomes of the public calls, by what each returns: open; next; seek, left and close
 abbrev pub ofOpen : {A : Type 0} → Result A Refusal → Outcome
 ofOpen (Ok x) = opened
 ofOpen (Err r) = refused (refusalNumber r)
@@ -61,7 +72,7 @@ abbrev pub ofCount : Result ℕ Refusal → Outcome
 ofCount (Ok n) = counted n
 ofCount (Err r) = refused (refusalNumber r)
 
--- the outcome of roll, by its answer and what the buffer then holds
+-- roll: how many it answers, and the so many entries that its buffer then holds at the front
 abbrev pub ofRoll : Result ℕ Refusal → List ℕ → Outcome
 ofRoll (Ok n) buffer = rolled n (take n buffer)
 ofRoll (Err r) buffer = refused (refusalNumber r)

@@ -3,13 +3,13 @@ use mathlib.Core.Bool.{Bool, true, false, cond, _&&_}
 use mathlib.Core.List.{List}
 use mathlib.Core.Path.{_≡_}
 use Prim.Native.Nat.{ℕ}
-use lib.Dec.{ltb, eqb}
+use lib.Dec.{ltb}
 use lib.ListN.{length, take, drop}
 use Rattle.std.specs.Iters.{counting}
-use Rattle.std.specs.shelf.Lists.{kept-by, countBy}
+use Rattle.std.specs.shelf.Lists.{kept-by}
 use Rattle.std.specs.declared.result.Result.{Result}
 use Rattle.std.specs.declared.result.Result.the-variants.{Ok, Err}
-use Rattle.session.specs.Outcomes.{Outcome, counted, refused}
+use Rattle.session.specs.Outcomes.{Outcome, counted, refused, occurrences}
 use Rattle.session.specs.Tables.{cursorAt}
 use Rattle.session.specs.declared.cursor.State.{State}
 use Rattle.session.specs.declared.cursor.State.the-variants.{Closed, Waiting, Ended}
@@ -30,13 +30,9 @@ isOpenAt t k = ltb k 8 && isOpen (cursorAt t k .state)
 unfoldable pub openCursors : Table → List ℕ
 openCursors t = kept-by (isOpenAt t) (counting 0 8)
 
--- how many they are, or 25 for a buffer with too little room
+-- what roll answers, as a count: how many they are, or 25 for a buffer with too little room
 unfoldable pub rollOutcome : Table → ℕ → Outcome
 rollOutcome t room = cond (ltb room (length (openCursors t))) (refused 25) (counted (length (openCursors t)))
-
--- how often the number stands in the list
-abbrev pub occurrences : ℕ → List ℕ → ℕ
-occurrences k ns = countBy (eqb k) ns
 
 -- the front of the buffer has each open cursor just once and nothing else, in any order, and later entries keep what they
 -- held; a refusal leaves the whole buffer as it was

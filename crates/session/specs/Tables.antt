@@ -1,34 +1,26 @@
 -- What the table of eight cursors answers and what it is then. Assumes nothing.
-use mathlib.Core.Bool.{Bool, true, cond}
-use mathlib.Core.List.{List}
+use mathlib.Core.Bool.{cond}
 use Prim.Native.Nat.{ℕ, _+_}
 use lib.Dec.{ltb}
 use lib.ListN.{getD, set, replicate}
 use Rattle.quads.specs.Counts.{capped}
 use Rattle.quads.specs.Listings.{Listing}
-use Rattle.quads.specs.Patterns.{asksIds}
+use Rattle.session.specs.Asks.{asksOnlyIds}
 use Rattle.session.specs.Cursors.{closed, cursorOutcome, cursorAfter}
 use Rattle.session.specs.Outcomes.{Outcome, opened, gave, ended, counted, rolled, refused}
 use Rattle.session.specs.declared.call.Ask.{Ask}
-use Rattle.session.specs.declared.call.Ask.the-variants.{Open, Next, Seek, Left, Close}
 use Rattle.session.specs.declared.cursor.Cursor.{Cursor}
 use Rattle.session.specs.declared.cursor.Table.{Table}
 
--- every number that is given in it is an ID
-abbrev pub asksOnlyIds : Ask → Bool
-asksOnlyIds (Open p) = asksIds p
-asksOnlyIds Next = true
-asksOnlyIds (Seek mark) = true
-asksOnlyIds Left = true
-asksOnlyIds Close = true
-
+-- eight closed cursors, and no quad given
 abbrev pub newTable : Table
 newTable = record { cursors = replicate 8 closed; given = 0 }
 
+-- the cursor of this number
 abbrev pub cursorAt : Table → ℕ → Cursor
 cursorAt t k = getD (t .cursors) k closed
 
--- tally: one more for each quad that is given
+-- the number of quads given, after a call with this outcome
 abbrev pub tallied : ℕ → Outcome → ℕ
 tallied n opened = n
 tallied n (gave q) = capped (n + 1)
@@ -49,5 +41,6 @@ asked l t k ask =
       given = tallied (t .given) (cursorOutcome l (cursorAt t k) ask);
     }
 
+-- what the table is then; where the call is refused, what it was
 abbrev pub askAfter : Listing → Table → ℕ → Ask → Table
 askAfter l t k ask = cond (ltb 7 k) t (cond (asksOnlyIds ask) (asked l t k ask) t)

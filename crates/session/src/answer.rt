@@ -1,7 +1,7 @@
 // What a cursor does when it is asked.
 ghost use Rattle.quads.specs.Listings.{firstFrom};
-ghost use Rattle.session.specs.Cursors.{closed, openedAt, cursorOutcome, cursorAfter, advanced, gaveOr, leftFrom, sought, soughtOutcome};
-ghost use Rattle.session.specs.Outcomes.{Outcome, replied};
+ghost use Rattle.session.specs.Cursors.{closed, openedAt, cursorOutcome, cursorAfter, advanced, leftFrom, sought, soughtOutcome};
+ghost use Rattle.session.specs.Outcomes.{Outcome, gaveOr, replied};
 ghost use Rattle.std.specs.declared.result.Result.the-variants.{Ok};
 ghost use Rattle.std.specs.Results.{isOk};
 ghost use mathlib.Core.Bool.{false};

@@ -5,6 +5,7 @@ use quads::Mark;
 use quads::Pattern;
 use quads::Quad;
 
+// What is asked of one cursor.
 #[derive(Clone, Copy)]
 pub enum Ask {
     // Begin to list the quads that match the pattern.

@@ -2,6 +2,7 @@
 use quads::Mark;
 use quads::Pattern;
 
+// How far a cursor has come.
 #[derive(Clone, Copy)]
 pub enum State {
     Closed,
@@ -11,6 +12,7 @@ pub enum State {
     Ended,
 }
 
+// One of the eight cursors of a session.
 #[derive(Clone, Copy)]
 pub struct Cursor {
     pub(crate) state: State,
@@ -20,6 +22,7 @@ pub struct Cursor {
     pub(crate) given: u32,
 }
 
+// The cursors, and what they gave in all.
 #[derive(Clone, Copy)]
 pub struct Table {
     pub(crate) cursors: [Cursor; 8],

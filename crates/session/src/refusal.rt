@@ -2,7 +2,7 @@
 ghost use Rattle.session.specs.Outcomes.{refusalNumber};
 ghost use mathlib.Core.Path.{_≡_};
 
-// The cases, in the order in which they are tried.
+// The cases. Each call tries those that can meet it in this order.
 #[derive(Clone, Copy, PartialEq, Eq, Debug)]
 pub enum Refusal {
     // The cursor's number is above 7.

@@ -90,7 +90,7 @@ impl<'a, S: QuadSource> Session<'a, S> {
         self.table.close(self.source, cursor)
     }
 
-    // How many quads were given to all cursors since attaching.
+    // How many quads all cursors gave since attaching, over all their openings.
     pub fn tally(&self) -> u32
         ensures answer { λ r. ⌜ r ≡ now (self .entry) .table .given ⌝ }
         ensures law { λ r. ⌜ Follows (means (now (now (self .entry) .source))) (now (self .entry) .table) Tally (counted r) (now (self .entry) .table) ⌝ }

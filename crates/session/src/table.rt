@@ -1,6 +1,7 @@
 // The table of a session's eight cursors.
+ghost use Rattle.session.specs.Asks.{asksOnlyIds};
 ghost use Rattle.session.specs.Outcomes.{replied, ofOpen, ofNext, ofCount};
-ghost use Rattle.session.specs.Tables.{asksOnlyIds, askOutcome, askAfter, newTable};
+ghost use Rattle.session.specs.Tables.{askOutcome, askAfter, newTable};
 ghost use Rattle.session.specs.declared.call.Ask.the-variants.{Open, Next, Seek, Left, Close};
 ghost use Rattle.std.specs.Results.{isOk};
 ghost use mathlib.Core.Bool.{false};
@@ -42,7 +43,7 @@ impl Table {
         }
     }
 
-    // Asks one cursor, and adds up what all are given; a refusal leaves the table as it was.
+    // Asks one cursor, and adds up what all cursors gave; a refusal leaves the table as it was.
     pub(crate) fn ask<S: QuadSource>(
         &mut self,
         source: &S,

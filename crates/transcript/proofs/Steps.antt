@@ -16,9 +16,9 @@ use Rattle.session.specs.declared.call.Call.the-variants.{On}
 use Rattle.session.specs.declared.call.Call.{Call}
 use Rattle.session.specs.declared.cursor.Table.{Table}
 use Rattle.transcript.specs.Transcripts.{tells, Untouched, eventOf, historyOf, callsOf}
-use Rattle.transcript.specs.declared.entry.Record.{Record}
-use Rattle.transcript.specs.declared.entry.Answer.{Answer}
-use Rattle.transcript.specs.declared.entry.Answer.the-variants.{Pending}
+use Rattle.transcript.specs.declared.records.Record.{Record}
+use Rattle.transcript.specs.declared.records.Answer.{Answer}
+use Rattle.transcript.specs.declared.records.Answer.the-variants.{Pending}
 
 -- what stands past the end of a transcript
 abbrev pub blank : Record

@@ -6,12 +6,11 @@ use lib.ListN.{take, drop, replicate}
 use Rattle.session.specs.Histories.{Event, History}
 use Rattle.session.specs.Outcomes.{Outcome, opened, gave, ended, counted, rolled, refused, refusalNumber}
 use Rattle.session.specs.declared.call.Call.{Call}
-use Rattle.transcript.specs.declared.entry.Answer.{Answer}
-use Rattle.transcript.specs.declared.entry.Answer.the-variants.{Pending, Opened, Gave, End, Counted, Rolled, Refused}
-use Rattle.transcript.specs.declared.entry.Record.{Record}
+use Rattle.transcript.specs.declared.records.Answer.{Answer}
+use Rattle.transcript.specs.declared.records.Answer.the-variants.{Pending, Opened, Gave, End, Counted, Rolled, Refused}
+use Rattle.transcript.specs.declared.records.Record.{Record}
 
--- the number and the values of each answer; no call comes to what a call that is not yet asked tells, since no refusal has
--- the number 0
+-- the number and the values of each answer; `Pending` tells 'refused 0', which no call comes to
 abbrev pub tells : Answer → Outcome
 tells Pending = refused 0
 tells Opened = opened
@@ -31,6 +30,7 @@ Untouched (Counted n) = Unit {0}
 Untouched (Rolled n buffer) = drop n buffer ≡ drop n (replicate 8 0)
 Untouched (Refused r) = Unit {0}
 
+-- the call of a record, and what its answer tells
 abbrev pub eventOf : Record → Event
 eventOf r = record { call = r .call; outcome = tells (r .answer) }
 
@@ -38,5 +38,6 @@ eventOf r = record { call = r .call; outcome = tells (r .answer) }
 unfoldable pub historyOf : List Record → History
 historyOf rs = reverse (map eventOf rs)
 
+-- the calls alone
 abbrev pub callsOf : List Record → List Call
 callsOf rs = map (λ r. r .call) rs

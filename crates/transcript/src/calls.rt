@@ -3,15 +3,16 @@ ghost use Rattle.session.specs.Keeps.{Follows};
 ghost use Rattle.session.specs.declared.call.Call.the-variants.{On, Roll};
 ghost use Rattle.transcript.specs.Transcripts.{tells, Untouched};
 ghost use mathlib.Core.Path.{_≡_};
-use crate::entry::Answer;
-use crate::entry::counted;
-use crate::entry::given;
-use crate::entry::opened;
+use crate::records::Answer;
+use crate::records::of_count;
+use crate::records::of_next;
+use crate::records::of_open;
 use quads::QuadSource;
 use session::Ask;
 use session::Call;
 use session::Session;
 
+// Makes the call, and answers what came of it.
 pub(crate) fn make<S: QuadSource>(session: &mut Session<'_, S>, call: Call) -> Answer
     ensures law { λ r. ⌜ Follows (means (now (now (session .entry) .source))) (now (session .entry) .table) call (tells r) (now (session .exit) .table) ⌝ }
     ensures source { λ _. ⌜ now (now (session .exit) .source) ≡ now (now (session .entry) .source) ⌝ }
@@ -30,11 +31,11 @@ fn make_on<S: QuadSource>(session: &mut Session<'_, S>, cursor: u32, ask: Ask) -
     ensures untouched { λ r. ⌜ Untouched r ⌝ }
 {
     match ask {
-        Ask::Open(pattern) => opened(session.open(cursor, pattern)),
-        Ask::Next => given(session.next(cursor)),
-        Ask::Seek(mark) => counted(session.seek(cursor, mark)),
-        Ask::Left => counted(session.left(cursor)),
-        Ask::Close => counted(session.close(cursor)),
+        Ask::Open(pattern) => of_open(session.open(cursor, pattern)),
+        Ask::Next => of_next(session.next(cursor)),
+        Ask::Seek(mark) => of_count(session.seek(cursor, mark)),
+        Ask::Left => of_count(session.left(cursor)),
+        Ask::Close => of_count(session.close(cursor)),
     }
 }
 

@@ -6,7 +6,7 @@ ghost use Rattle.transcript.specs.Transcripts.{Untouched, historyOf, callsOf};
 ghost use Prim.Native.Nat.{ℕ};
 ghost use mathlib.Core.Path.{_≡_};
 use crate::calls::make;
-use crate::entry::Record;
+use crate::records::Record;
 use quads::QuadSource;
 use session::Session;
 
@@ -30,6 +30,8 @@ pub fn run_twice<S: QuadSource>(source: &S, first: &mut [Record], second: &mut [
     ensures second_calls { λ _. ⌜ callsOf (now (second .exit)) ≡ callsOf (now (second .entry)) ⌝ }
     ensures first_law { λ _. ⌜ Law (means (now (source .entry))) (historyOf (now (first .exit))) ⌝ }
     ensures second_law { λ _. ⌜ Law (means (now (source .entry))) (historyOf (now (second .exit))) ⌝ }
+    ensures first_untouched { λ _. ⌜ All (λ r. Untouched (r .answer)) (now (first .exit)) ⌝ }
+    ensures second_untouched { λ _. ⌜ All (λ r. Untouched (r .answer)) (now (second .exit)) ⌝ }
     ensures apart { λ _. ⌜ ((k : ℕ) → asksOf k (historyOf (now (first .exit))) ≡ asksOf k (historyOf (now (second .exit))) → answersOf k (historyOf (now (first .exit))) ≡ answersOf k (historyOf (now (second .exit)))) ⌝ }
 {
     run(source, first);

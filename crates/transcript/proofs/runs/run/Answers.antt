@@ -10,7 +10,7 @@ use Rattle.session.specs.Keeps.{Keeps, Follows}
 use Rattle.session.specs.Law.{Answered, Law}
 use Rattle.session.proofs.Listed.{law-from-answered}
 use Rattle.transcript.specs.Transcripts.{tells, Untouched, historyOf}
-use Rattle.transcript.specs.declared.entry.Record.{Record}
+use Rattle.transcript.specs.declared.records.Record.{Record}
 use Rattle.transcript.proofs.Steps.{blank, history-none, keeps-more, answered-more, calls-more, untouched-more}
 use Rattle.transcript.proofs.runs.run.Needs as need
 

@@ -3,8 +3,8 @@ use Prim.Native.Nat.{_<_, _≤_}
 use native.Mathlib.Omega.{arith}
 use lib.ListN.{length}
 use Rattle.std.proofs.shelf.Tests.{cond-true, cond-false, lt-ltb, le-ltb}
-use Rattle.session.specs.Outcomes.{counted}
-use Rattle.session.specs.Rolls.{rollOutcome, occurrences, openCursors}
+use Rattle.session.specs.Outcomes.{counted, occurrences}
+use Rattle.session.specs.Rolls.{rollOutcome, openCursors}
 use Rattle.session.proofs.Rolls.{open-once}
 use Rattle.session.proofs.cursor.Table.roll.Needs as need
 

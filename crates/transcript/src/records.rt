@@ -25,6 +25,7 @@ pub enum Answer {
     Refused(Refusal),
 }
 
+// One line of a transcript.
 #[derive(Clone, Copy)]
 pub struct Record {
     pub call: Call,
@@ -32,7 +33,7 @@ pub struct Record {
 }
 
 // The answer of open.
-pub(crate) fn opened(result: Result<(), Refusal>) -> Answer
+pub(crate) fn of_open(result: Result<(), Refusal>) -> Answer
     ensures { λ r. ⌜ tells r ≡ ofOpen result ⌝ }
 {
     match result {
@@ -42,7 +43,7 @@ pub(crate) fn opened(result: Result<(), Refusal>) -> Answer
 }
 
 // The answer of next.
-pub(crate) fn given(result: Result<Option<Quad>, Refusal>) -> Answer
+pub(crate) fn of_next(result: Result<Option<Quad>, Refusal>) -> Answer
     ensures { λ r. ⌜ tells r ≡ ofNext result ⌝ }
 {
     match result {
@@ -53,7 +54,7 @@ pub(crate) fn given(result: Result<Option<Quad>, Refusal>) -> Answer
 }
 
 // The answer of seek, left and close.
-pub(crate) fn counted(result: Result<u32, Refusal>) -> Answer
+pub(crate) fn of_count(result: Result<u32, Refusal>) -> Answer
     ensures { λ r. ⌜ tells r ≡ ofCount result ⌝ }
 {
     match result {
