@@ -1,119 +1,85 @@
--- The third part of the law from the second: a cursor's answers hang on what is asked of it alone. Assumes nothing.
+-- The third part of the law from the second: a cursor's answers hang on the calls that name it alone. Assumes nothing.
 use mathlib.Core.Bool.{Bool, true, false, cond, _&&_}
-use mathlib.Core.List.{List, [], _∷_, _++_, map}
+use mathlib.Core.List.{List, [], _∷_, map}
 use mathlib.Core.Path.{_≡_, refl, sym, ap, subst, _∙_}
-use mathlib.Core.Logic.{_⊎_, inl, inr, ⊎-elim}
+use mathlib.Core.Logic.{_⊎_, ⊎-elim}
 use Prim.Native.Nat.{ℕ}
 use native.Mathlib.Omega.{arith}
 use lib.Dec.{eqb}
+use Rattle.std.specs.shelf.Lists.{kept-by}
 use Rattle.std.specs.declared.option.Option.{Option}
-use Rattle.std.specs.declared.option.Option.the-variants.{Some, None}
-use Rattle.std.proofs.shelf.Tests.{cases-bool, cond-true, cond-false, eqb-true, and-left}
+use Rattle.std.proofs.shelf.Tests.{and-parts, and-left, and-from, both-ways, cases-bool, cond-false, eqb-true}
+use Rattle.ordered.specs.Lists.{each}
+use Rattle.ordered.proofs.Kept.{kept-yes, kept-no}
 use Rattle.quads.specs.Listings.{Listing}
-use Rattle.session.specs.Histories.{Event, History, Granted, Opening, granted, afterGranted, afterCall, openingOf, asksIn, asksOf, answersIn, answersOf}
-use Rattle.session.specs.Law.{dueOn, Due, Answered}
+use Rattle.session.specs.Asks.{tried}
+use Rattle.session.specs.Histories.{Event, History, Opening, granted, afterGranted, afterCall, openingOf, names, on, calls}
+use Rattle.session.specs.Law.{dueIn, Due, Answered}
 use Rattle.session.specs.Outcomes.{Outcome}
 use Rattle.session.specs.declared.call.Ask.{Ask}
 use Rattle.session.specs.declared.call.Call.{Call}
 use Rattle.session.specs.declared.call.Call.the-variants.{On, Tally, Roll}
-use Rattle.session.proofs.CursorFollows.{goes}
 
--- the calls that name a cursor, with their outcomes
-abbrev only : ℕ → Call → Outcome → List Granted → List Granted
-only k (On j ask) o gs = cond (eqb j k) (record { ask = ask; outcome = o } ∷ gs) gs
-only k Tally o gs = gs
-only k (Roll room) o gs = gs
+-- a call that does not name the cursor leaves its opening
+other-opening : (k : ℕ) (call : Call) (o : Outcome) (w : Option Opening) → names k call ≡ false → afterCall k call o w ≡ w
+other-opening k (On j ask) o w f = cond-false (eqb j k && granted o) (afterGranted ask o w) w (and-left _ _ f)
+other-opening k Tally o w f = refl
+other-opening k (Roll room) o w f = refl
 
-onlyOf : ℕ → History → List Granted
-onlyOf k [] = []
-onlyOf k (e ∷ h) = only k (e .call) (e .outcome) (onlyOf k h)
-
--- its opening, and that its answers were due, by these alone
-openingIn : List Granted → Option Opening
-openingIn [] = None
-openingIn (g ∷ gs) = goes (openingIn gs) (g .ask) (g .outcome)
-
-abbrev AnsweredIn : Listing → ℕ → List Granted → Type 0
-AnsweredIn l k [] = Unit {0}
-AnsweredIn l k (g ∷ gs) = (g .outcome ≡ dueOn l k (openingIn gs) (g .ask)) × AnsweredIn l k gs
-
-step-opening : (k : ℕ) (call : Call) (o : Outcome) (gs : List Granted) → afterCall k call o (openingIn gs) ≡ openingIn (only k call o gs)
-unfolding openingIn
-step-opening k (On j ask) o gs =
+-- its opening is told by the calls that name it
+on-opening : (k : ℕ) (h : History) → openingOf k (on k h) ≡ openingOf k h
+unfolding openingOf on
+on-opening k [] = refl
+on-opening k (e ∷ h) =
     ⊎-elim
-    (λ t.
-    ap (λ b. cond (b && granted o) (afterGranted ask o (openingIn gs)) (openingIn gs)) t
-    ∙ ap openingIn (sym (cond-true (eqb j k) (record { ask = ask; outcome = o } ∷ gs) gs t)))
-    (λ f.
-    cond-false (eqb j k && granted o) _ _ (and-left _ _ f)
-    ∙ ap openingIn (sym (cond-false (eqb j k) (record { ask = ask; outcome = o } ∷ gs) gs f)))
-    (cases-bool (eqb j k))
-step-opening k Tally o gs = refl
-step-opening k (Roll room) o gs = refl
+    (λ t. ap (openingOf k) (kept-yes (λ e. names k (e .call)) e h t) ∙ ap (afterCall k (e .call) (e .outcome)) (on-opening k h))
+    (λ f. ap (openingOf k) (kept-no (λ e. names k (e .call)) e h f) ∙ on-opening k h ∙ sym (other-opening k (e .call) (e .outcome) (openingOf k h) f))
+    (cases-bool (names k (e .call)))
 
-same-opening : (k : ℕ) (h : History) → openingOf k h ≡ openingIn (onlyOf k h)
-unfolding openingOf onlyOf openingIn
-same-opening k [] = refl
-same-opening k (e ∷ h) = ap (afterCall k (e .call) (e .outcome)) (same-opening k h) ∙ step-opening k (e .call) (e .outcome) (onlyOf k h)
-
-step-answered : (l : Listing) (k : ℕ) (call : Call) (o : Outcome) (h : History) → Due l h call o → AnsweredIn l k (onlyOf k h) → AnsweredIn l k (only k call o (onlyOf k h))
-step-answered l k (On j ask) o h due rest =
-    ⊎-elim
-    (λ t.
+-- and so is what is due of it
+on-due : (l : Listing) (k : ℕ) (h : History) (call : Call) (o : Outcome) → names k call ≡ true → Due l h call o → Due l (on k h) call o
+on-due l k h (On j ask) o t due =
     let same : j ≡ k = eqb-true j k t in
-    let named : o ≡ dueOn l k (openingIn (onlyOf k h)) ask = due ∙ ap (λ i. dueOn l i (openingOf i h) ask) same ∙ ap (λ w. dueOn l k w ask) (same-opening k h) in
-    subst (AnsweredIn l k) (sym (cond-true (eqb j k) (record { ask = ask; outcome = o } ∷ onlyOf k h) (onlyOf k h) t)) (named, rest))
-    (λ f. subst (AnsweredIn l k) (sym (cond-false (eqb j k) (record { ask = ask; outcome = o } ∷ onlyOf k h) (onlyOf k h) f)) rest)
-    (cases-bool (eqb j k))
-step-answered l k Tally o h due rest = rest
-step-answered l k (Roll room) o h due rest = rest
+    due ∙ ap (λ w. tried j ask (dueIn l w ask)) (ap (λ i. openingOf i h) same ∙ sym (on-opening k h) ∙ ap (λ i. openingOf i (on k h)) (sym same))
+on-due l k h Tally o t due = absurd (both-ways false refl t)
+on-due l k h (Roll room) o t due = absurd (both-ways false refl t)
 
-answered-in : (l : Listing) (k : ℕ) (h : History) → Answered l h → AnsweredIn l k (onlyOf k h)
-unfolding onlyOf
-answered-in l k [] a = tt
-answered-in l k (e ∷ h) a = step-answered l k (e .call) (e .outcome) h (a .0) (answered-in l k h (a .1))
-
-asksIn-only : (k : ℕ) (call : Call) (o : Outcome) (gs : List Granted) → asksIn k call ++ map (λ g. g .ask) gs ≡ map (λ g. g .ask) (only k call o gs)
-asksIn-only k (On j ask) o gs =
+on-answered : (l : Listing) (k : ℕ) (h : History) → Answered l h → Answered l (on k h)
+unfolding on
+on-answered l k [] a = tt
+on-answered l k (e ∷ h) a =
     ⊎-elim
-    (λ t. ap (λ b. cond b (ask ∷ []) [] ++ map (λ g. g .ask) gs) t ∙ ap (λ b. map (λ g. g .ask) (cond b (record { ask = ask; outcome = o } ∷ gs) gs)) (sym t))
-    (λ f. ap (λ b. cond b (ask ∷ []) [] ++ map (λ g. g .ask) gs) f ∙ ap (λ b. map (λ g. g .ask) (cond b (record { ask = ask; outcome = o } ∷ gs) gs)) (sym f))
-    (cases-bool (eqb j k))
-asksIn-only k Tally o gs = refl
-asksIn-only k (Roll room) o gs = refl
+    (λ t. subst (Answered l) (sym (kept-yes (λ e. names k (e .call)) e h t)) (on-due l k h (e .call) (e .outcome) t (a .0), on-answered l k h (a .1)))
+    (λ f. subst (Answered l) (sym (kept-no (λ e. names k (e .call)) e h f)) (on-answered l k h (a .1)))
+    (cases-bool (names k (e .call)))
 
-answersIn-only : (k : ℕ) (call : Call) (o : Outcome) (gs : List Granted) → answersIn k call o ++ map (λ g. g .outcome) gs ≡ map (λ g. g .outcome) (only k call o gs)
-answersIn-only k (On j ask) o gs =
+on-named : (k : ℕ) (h : History) → each (λ e. names k (e .call)) (on k h) ≡ true
+unfolding on
+on-named k [] = refl
+on-named k (e ∷ h) =
     ⊎-elim
-    (λ t. ap (λ b. cond b (o ∷ []) [] ++ map (λ g. g .outcome) gs) t ∙ ap (λ b. map (λ g. g .outcome) (cond b (record { ask = ask; outcome = o } ∷ gs) gs)) (sym t))
-    (λ f. ap (λ b. cond b (o ∷ []) [] ++ map (λ g. g .outcome) gs) f ∙ ap (λ b. map (λ g. g .outcome) (cond b (record { ask = ask; outcome = o } ∷ gs) gs)) (sym f))
-    (cases-bool (eqb j k))
-answersIn-only k Tally o gs = refl
-answersIn-only k (Roll room) o gs = refl
+    (λ t. subst (λ es. each (λ e. names k (e .call)) es ≡ true) (sym (kept-yes (λ e. names k (e .call)) e h t)) (and-from _ _ t (on-named k h)))
+    (λ f. subst (λ es. each (λ e. names k (e .call)) es ≡ true) (sym (kept-no (λ e. names k (e .call)) e h f)) (on-named k h))
+    (cases-bool (names k (e .call)))
 
-asks-only : (k : ℕ) (h : History) → asksOf k h ≡ map (λ g. g .ask) (onlyOf k h)
-unfolding asksOf onlyOf
-asks-only k [] = refl
-asks-only k (e ∷ h) = ap (λ qs. asksIn k (e .call) ++ qs) (asks-only k h) ∙ asksIn-only k (e .call) (e .outcome) (onlyOf k h)
+-- a call that names a cursor has one outcome that is due
+same-outcome : (l : Listing) (k : ℕ) (h : History) (call : Call) (o p : Outcome) → names k call ≡ true → Due l h call o → Due l h call p → o ≡ p
+same-outcome l k h (On j ask) o p t a b = a ∙ sym b
+same-outcome l k h Tally o p t a b = absurd (both-ways false refl t)
+same-outcome l k h (Roll room) o p t a b = absurd (both-ways false refl t)
 
-answers-only : (k : ℕ) (h : History) → answersOf k h ≡ map (λ g. g .outcome) (onlyOf k h)
-unfolding answersOf onlyOf
-answers-only k [] = refl
-answers-only k (e ∷ h) = ap (λ os. answersIn k (e .call) (e .outcome) ++ os) (answers-only k h) ∙ answersIn-only k (e .call) (e .outcome) (onlyOf k h)
+-- the same calls, the same answers
+same-answers : (l : Listing) (k : ℕ) (g h : History) → Answered l g → Answered l h → each (λ e. names k (e .call)) h ≡ true → calls g ≡ calls h → g ≡ h
+same-answers l k [] [] a b n e = refl
+same-answers l k [] (f ∷ h) a b n e = let z : _≡_ {A = ℕ} 0 1 = cc in absurd (omega arith)
+same-answers l k (d ∷ g) [] a b n e = let z : _≡_ {A = ℕ} 0 1 = cc in absurd (omega arith)
+same-answers l k (d ∷ g) (f ∷ h) a b n e =
+    let head : d .call ≡ f .call = cc in
+    let tail : calls g ≡ calls h = cc in
+    let rest : g ≡ h = same-answers l k g h (a .1) (b .1) (and-parts _ _ n .1) tail in
+    let moved : Due l h (f .call) (d .outcome) = subst (λ x. Due l x (f .call) (d .outcome)) rest (subst (λ c. Due l g c (d .outcome)) head (a .0)) in
+    let out : d .outcome ≡ f .outcome = same-outcome l k h (f .call) (d .outcome) (f .outcome) (and-parts _ _ n .0) moved (b .0) in
+    λ i. record { call = head i; outcome = out i } ∷ rest i
 
--- the same asked, the same answered
-same-answers : (l : Listing) (k : ℕ) (gs fs : List Granted) → AnsweredIn l k gs → AnsweredIn l k fs → map (λ g. g .ask) gs ≡ map (λ f. f .ask) fs → gs ≡ fs
-same-answers l k [] [] a b e = refl
-same-answers l k [] (f ∷ fs) a b e = let z : _≡_ {A = ℕ} 0 1 = cc in absurd (omega arith)
-same-answers l k (g ∷ gs) [] a b e = let z : _≡_ {A = ℕ} 0 1 = cc in absurd (omega arith)
-same-answers l k (g ∷ gs) (f ∷ fs) a b e =
-    let head : g .ask ≡ f .ask = cc in
-    let tail : map (λ g. g .ask) gs ≡ map (λ f. f .ask) fs = cc in
-    let rest = same-answers l k gs fs (a .1) (b .1) tail in
-    let out : g .outcome ≡ f .outcome = a .0 ∙ ap (λ xs. dueOn l k (openingIn xs) (g .ask)) rest ∙ ap (dueOn l k (openingIn fs)) head ∙ sym (b .0) in
-    λ i. record { ask = head i; outcome = out i } ∷ rest i
-
-pub cursors-apart : (l : Listing) (k : ℕ) (h other : History) → Answered l h → Answered l other → asksOf k other ≡ asksOf k h → answersOf k other ≡ answersOf k h
-cursors-apart l k h other a b e =
-    let same = same-answers l k (onlyOf k other) (onlyOf k h) (answered-in l k other b) (answered-in l k h a) (sym (asks-only k other) ∙ e ∙ asks-only k h) in
-    answers-only k other ∙ ap (map (λ g. g .outcome)) same ∙ sym (answers-only k h)
+pub cursors-apart : (l : Listing) (k : ℕ) (h other : History) → Answered l h → Answered l other → calls (on k other) ≡ calls (on k h) → on k other ≡ on k h
+cursors-apart l k h other a b e = same-answers l k (on k other) (on k h) (on-answered l k other b) (on-answered l k h a) (on-named k h) e

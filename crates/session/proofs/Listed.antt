@@ -22,16 +22,16 @@ use Rattle.quads.specs.Listings.{Listing, matching}
 use Rattle.quads.specs.declared.quad.Quad.{Quad}
 use Rattle.quads.specs.declared.pattern.Pattern.{Pattern}
 use Rattle.quads.proofs.Marks.{matching-sorted}
-use Rattle.session.specs.Histories.{Event, History, Granted, Opening, granted, withCall, afterGranted, afterCall, openingOf, has, given, givenBy, jumped, jumpedBy, seeksPast, nextGave, left}
-use Rattle.session.specs.Law.{dueIn, dueOn, Due, Answered, Listed, Law}
-use Rattle.session.specs.Asks.{asksOnlyIds}
+use Rattle.session.specs.Histories.{Event, History, gives, ends, seeks, Opening, granted, nextTells, stepped, afterGranted, afterCall, openingOf, has, given, jumped, left, hasEnded}
+use Rattle.session.specs.Law.{dueIn, Due, Answered, Listed, Law}
+use Rattle.session.specs.Asks.{asksOnlyIds, tried}
 use Rattle.session.specs.Outcomes.{Outcome, opened, gave, ended, counted, rolled, refused, gaveOr}
 use Rattle.session.specs.declared.call.Ask.{Ask}
 use Rattle.session.specs.declared.call.Ask.the-variants.{Open, Next, Seek, Left, Close}
 use Rattle.session.specs.declared.call.Call.{Call}
 use Rattle.session.specs.declared.call.Call.the-variants.{On, Tally, Roll}
 use Rattle.session.proofs.Apart.{cursors-apart}
-use Rattle.session.proofs.Openings.{sameQuad-true, sameQuad-refl, called, quiet-given, quiet-left, next-given, next-left, seek-left, kept-others}
+use Rattle.session.proofs.Openings.{sameQuad-refl, further, next-given, next-left, seek-left, kept-others}
 
 each-append : {A : Type 0} (t : A → Bool) (xs ys : List A) → each t xs ≡ true → each t ys ≡ true → each t (xs ++ ys) ≡ true
 each-append t [] ys h k = k
@@ -64,10 +64,6 @@ push-ascends [] y h k = refl
 push-ascends (x ∷ []) y h k = and-from _ _ (and-parts _ _ k .0) refl
 push-ascends (x ∷ (z ∷ zs)) y h k = and-from _ _ (and-parts _ _ h .0) (push-ascends (z ∷ zs) y (and-parts _ _ h .1) (and-parts _ _ k .1))
 
-not-or-false : (j n : Bool) → not j ≡ true → not (j || (false && n)) ≡ true
-not-or-false true n e = e
-not-or-false false n e = e
-
 seek-unjumped : (j b g : Bool) → not j ≡ true → g ≡ true → not (j || (b && not g)) ≡ true
 seek-unjumped true b g e f = e
 seek-unjumped false true true e f = refl
@@ -86,112 +82,108 @@ module _ (l : Listing) (ascending : strictlyAscends quadBelow (l .quads) ≡ tru
   unfolding left
   left-matches w = has-kept _ (matching l (w .pattern))
 
-  left-unjumped : (w : Opening) → each (λ q. not (jumped w q)) (left l w) ≡ true
+  left-unjumped : (w : Opening) → each (λ q. not (jumped (w .steps) q)) (left l w) ≡ true
   unfolding left
   left-unjumped w =
-      each-weaker (λ q. not (has (given w) q) && not (jumped w q)) (λ q. not (jumped w q)) (λ q e. and-parts _ _ e .1) _ (each-passes (λ q. not (has (given w) q) && not (jumped w q)) (matching l (w .pattern)))
+      each-weaker (λ q. not (has (given (w .steps)) q) && not (jumped (w .steps) q)) (λ q. not (jumped (w .steps) q)) (λ q e. and-parts _ _ e .1) _
+      (each-passes (λ q. not (has (given (w .steps)) q) && not (jumped (w .steps) q)) (matching l (w .pattern)))
 
-  listed-fresh : (p : Pattern) → Listed l (record { pattern = p; calls = [] })
-  unfolding givenBy
-  listed-fresh p = record { matches = refl; ascends = refl; unjumped = refl; leastFirst = left-ascends (record { pattern = p; calls = [] }); above = refl }
-
-  listed-quiet : (v : Opening) (ask : Ask) (o : Outcome) → nextGave ask o ≡ [] → ((q : Quad) → seeksPast ask q ≡ false) → Listed l v → Listed l (called ask o v)
-  unfolding jumpedBy
-  listed-quiet v ask o e f h =
-      let same = quiet-given l v ask o e in
+  listed-fresh : (p : Pattern) → Listed l (record { pattern = p; steps = [] })
+  unfolding given hasEnded
+  listed-fresh p =
       record {
-        matches = subst (λ qs. each (has (matching l (v .pattern))) qs ≡ true) (sym same) (h .matches);
-        ascends = subst (λ qs. strictlyAscends quadBelow qs ≡ true) (sym same) (h .ascends);
-        unjumped =
-            subst (λ qs. each (λ q. not (jumped (called ask o v) q)) qs ≡ true) (sym same)
-            (each-weaker (λ q. not (jumped v q)) (λ q. not (jumped (called ask o v) q))
-            (λ q n. subst (λ b. not (jumped v q || (b && not (has (given v) q))) ≡ true) (sym (f q)) (not-or-false (jumped v q) (not (has (given v) q)) n)) (given v) (h .unjumped));
-        leastFirst = left-ascends (called ask o v);
-        above =
-            subst (λ qs. each (λ q. each (quadBelow q) (left l (called ask o v))) qs ≡ true) (sym same)
-            (subst (λ rest. each (λ q. each (quadBelow q) rest) (given v) ≡ true) (sym (quiet-left l v ask o e f)) (h .above));
+        found = refl;
+        ascending = refl;
+        unjumped = refl;
+        leastFirst = left-ascends (record { pattern = p; steps = [] });
+        above = refl;
+        complete = λ e. absurd (both-ways false refl e);
       }
 
-  listed-next : (v : Opening) (q : Quad) (rest : List Quad) → left l v ≡ q ∷ rest → Listed l v → Listed l (called Next (gave q) v)
-  unfolding jumpedBy
+  -- a next that answered end, where none was left
+  listed-end : (v : Opening) → left l v ≡ [] → Listed l v → Listed l (further ends v)
+  unfolding given jumped left
+  listed-end v e h =
+      record { found = h .found; ascending = h .ascending; unjumped = h .unjumped; leastFirst = h .leastFirst; above = h .above; complete = λ t. e; }
+
+  listed-next : (v : Opening) (q : Quad) (rest : List Quad) → left l v ≡ q ∷ rest → Listed l v → Listed l (further (gives q) v)
+  unfolding jumped hasEnded
   listed-next v q rest e h =
+      let gs = given (v .steps) in
       let same = next-given l v q in
-      let above : each (λ x. each (quadBelow x) (q ∷ rest)) (given v) ≡ true = subst (λ qs. each (λ x. each (quadBelow x) qs) (given v) ≡ true) e (h .above) in
+      let above : each (λ x. each (quadBelow x) (q ∷ rest)) gs ≡ true = subst (λ qs. each (λ x. each (quadBelow x) qs) gs ≡ true) e (h .above) in
       let ordered : sorted quadBelow quad-order (q ∷ rest) ≡ true = subst (λ qs. sorted quadBelow quad-order qs ≡ true) e (left-sorted v) in
-      let others : left l (called Next (gave q) v) ≡ rest = next-left l v q ∙ ap (kept-by (λ x. not (sameQuad x q))) e ∙ kept-others q rest ordered in
+      let others : left l (further (gives q) v) ≡ rest = next-left l v q ∙ ap (kept-by (λ x. not (sameQuad x q))) e ∙ kept-others q rest ordered in
       record {
-        matches =
+        found =
             subst (λ qs. each (has (matching l (v .pattern))) qs ≡ true) (sym same)
-            (each-append (has (matching l (v .pattern))) (given v) (q ∷ []) (h .matches)
+            (each-append (has (matching l (v .pattern))) gs (q ∷ []) (h .found)
             (and-from _ _ (and-parts _ _ (subst (λ qs. each (has (matching l (v .pattern))) qs ≡ true) e (left-matches v)) .0) refl));
-        ascends =
+        ascending =
             subst (λ qs. strictlyAscends quadBelow qs ≡ true) (sym same)
-            (push-ascends (given v) q (h .ascends) (each-weaker (λ x. each (quadBelow x) (q ∷ rest)) (λ x. quadBelow x q) (λ x a. and-parts _ _ a .0) (given v) above));
+            (push-ascends gs q (h .ascending) (each-weaker (λ x. each (quadBelow x) (q ∷ rest)) (λ x. quadBelow x q) (λ x a. and-parts _ _ a .0) gs above));
         unjumped =
-            subst (λ qs. each (λ x. not (jumped (called Next (gave q) v) x)) qs ≡ true) (sym same)
-            (each-weaker (λ x. not (jumped v x)) (λ x. not (jumped (called Next (gave q) v) x)) (λ x n. not-or-false (jumped v x) (not (has (given v) x)) n) (given v ++ q ∷ [])
-            (each-append (λ x. not (jumped v x)) (given v) (q ∷ []) (h .unjumped)
-            (and-from _ _ (and-parts _ _ (subst (λ qs. each (λ x. not (jumped v x)) qs ≡ true) e (left-unjumped v)) .0) refl)));
-        leastFirst = left-ascends (called Next (gave q) v);
+            subst (λ qs. each (λ x. not (jumped (v .steps) x)) qs ≡ true) (sym same)
+            (each-append (λ x. not (jumped (v .steps) x)) gs (q ∷ []) (h .unjumped)
+            (and-from _ _ (and-parts _ _ (subst (λ qs. each (λ x. not (jumped (v .steps) x)) qs ≡ true) e (left-unjumped v)) .0) refl));
+        leastFirst = left-ascends (further (gives q) v);
         above =
-            subst (λ qs. each (λ x. each (quadBelow x) (left l (called Next (gave q) v))) qs ≡ true) (sym same)
-            (subst (λ r. each (λ x. each (quadBelow x) r) (given v ++ q ∷ []) ≡ true) (sym others)
-            (each-append (λ x. each (quadBelow x) rest) (given v) (q ∷ [])
-            (each-weaker (λ x. each (quadBelow x) (q ∷ rest)) (λ x. each (quadBelow x) rest) (λ x a. and-parts _ _ a .1) (given v) above)
+            subst (λ qs. each (λ x. each (quadBelow x) (left l (further (gives q) v))) qs ≡ true) (sym same)
+            (subst (λ r. each (λ x. each (quadBelow x) r) (gs ++ q ∷ []) ≡ true) (sym others)
+            (each-append (λ x. each (quadBelow x) rest) gs (q ∷ [])
+            (each-weaker (λ x. each (quadBelow x) (q ∷ rest)) (λ x. each (quadBelow x) rest) (λ x a. and-parts _ _ a .1) gs above)
             (and-from _ _ (and-parts _ _ ordered .0) refl)));
+        complete = λ t. let none : left l v ≡ [] = h .complete t in let z : _≡_ {A = ℕ} 0 1 = cc (none, e) in absurd (omega arith);
       }
 
-  listed-seek : (v : Opening) (mark : Quad) (o : Outcome) → Listed l v → Listed l (called (Seek mark) o v)
-  unfolding jumpedBy
-  listed-seek v mark o h =
-      let same = quiet-given l v (Seek mark) o refl in
+  listed-seek : (v : Opening) (mark : Quad) → Listed l v → Listed l (further (seeks mark) v)
+  unfolding given jumped hasEnded
+  listed-seek v mark h =
+      let gs = given (v .steps) in
       record {
-        matches = subst (λ qs. each (has (matching l (v .pattern))) qs ≡ true) (sym same) (h .matches);
-        ascends = subst (λ qs. strictlyAscends quadBelow qs ≡ true) (sym same) (h .ascends);
+        found = h .found;
+        ascending = h .ascending;
         unjumped =
-            subst (λ qs. each (λ q. not (jumped (called (Seek mark) o v) q)) qs ≡ true) (sym same)
-            (each-both (λ q. not (jumped v q)) (has (given v)) (λ q. not (jumped (called (Seek mark) o v) q))
-            (λ q n g. seek-unjumped (jumped v q) (quadBelow q mark) (has (given v) q) n g) (given v) (h .unjumped) (has-itself (given v)));
-        leastFirst = left-ascends (called (Seek mark) o v);
+            each-both (λ q. not (jumped (v .steps) q)) (has gs) (λ q. not (jumped (seeks mark ∷ v .steps) q))
+            (λ q n g. seek-unjumped (jumped (v .steps) q) (quadBelow q mark) (has gs q) n g) gs (h .unjumped) (has-itself gs);
+        leastFirst = left-ascends (further (seeks mark) v);
         above =
-            subst (λ qs. each (λ q. each (quadBelow q) (left l (called (Seek mark) o v))) qs ≡ true) (sym same)
-            (subst (λ rest. each (λ q. each (quadBelow q) rest) (given v) ≡ true) (sym (seek-left l v mark o))
+            subst (λ rest. each (λ q. each (quadBelow q) rest) gs ≡ true) (sym (seek-left l v mark))
             (each-weaker (λ q. each (quadBelow q) (left l v)) (λ q. each (quadBelow q) (kept-by (λ x. not (quadBelow x mark)) (left l v)))
-            (λ q a. each-kept (quadBelow q) (λ x. not (quadBelow x mark)) (left l v) a) (given v) (h .above)));
+            (λ q a. each-kept (quadBelow q) (λ x. not (quadBelow x mark)) (left l v) a) gs (h .above));
+        complete = λ t. seek-left l v mark ∙ ap (kept-by (λ x. not (quadBelow x mark))) (h .complete t);
       }
 
   -- one call on, by what is asked and what came of it
-  listed-call : (w v : Opening) (ask : Ask) (o : Outcome) → o ≡ dueIn l (Some v) ask → Listed l v → Some (called ask o v) ≡ Some w → nextGave ask o ≡ [] → ((q : Quad) → seeksPast ask q ≡ false) → Listed l w
-  listed-call w v ask o due h e quiet still = let same : called ask o v ≡ w = cc in subst (Listed l) same (listed-quiet v ask o quiet still h)
-
-  listed-granted : (w : Opening) (before : Option Opening) (ask : Ask) (o : Outcome) → granted o ≡ true → ((v : Opening) → before ≡ Some v → Listed l v) → o ≡ dueIn l before ask → afterGranted ask o before ≡ Some w → Listed l w
-  listed-granted w before (Open p) o g ih due e = let same : record { pattern = p; calls = [] } ≡ w = cc in subst (Listed l) same (listed-fresh p)
-  listed-granted w before Close o g ih due e = let z : _≡_ {A = ℕ} 0 1 = cc in absurd (omega arith)
-  listed-granted w None Next o g ih due e = let z : _≡_ {A = ℕ} 0 1 = cc in absurd (omega arith)
-  listed-granted w None (Seek mark) o g ih due e = let z : _≡_ {A = ℕ} 0 1 = cc in absurd (omega arith)
-  listed-granted w None Left o g ih due e = let z : _≡_ {A = ℕ} 0 1 = cc in absurd (omega arith)
-  listed-granted w (Some v) Left o g ih due e = listed-call w v Left o due (ih v refl) e refl (λ q. refl)
-  listed-granted w (Some v) (Seek mark) o g ih due e = let same : called (Seek mark) o v ≡ w = cc in subst (Listed l) same (listed-seek v mark o (ih v refl))
-  listed-granted w (Some v) Next o g ih due e =
-      let same : called Next o v ≡ w = cc in
-      subst (Listed l) same (next (left l v) refl)
+  listed-granted : (w : Opening) (before : Option Opening) (ask : Ask) (o : Outcome) → ((v : Opening) → before ≡ Some v → Listed l v) → o ≡ dueIn l before ask → afterGranted ask o before ≡ Some w → Listed l w
+  listed-granted w before (Open p) o ih due e = let same : record { pattern = p; steps = [] } ≡ w = cc in subst (Listed l) same (listed-fresh p)
+  listed-granted w before Close o ih due e = let z : _≡_ {A = ℕ} 0 1 = cc in absurd (omega arith)
+  listed-granted w before Left o ih due e = ih w e
+  listed-granted w None Next o ih due e = let z : _≡_ {A = ℕ} 0 1 = cc in absurd (omega arith)
+  listed-granted w None (Seek mark) o ih due e = let z : _≡_ {A = ℕ} 0 1 = cc in absurd (omega arith)
+  listed-granted w (Some v) (Seek mark) o ih due e = let same : further (seeks mark) v ≡ w = cc in subst (Listed l) same (listed-seek v mark (ih v refl))
+  listed-granted w (Some v) Next o ih due e = next (left l v) refl
     where
-      next : (qs : List Quad) → left l v ≡ qs → Listed l (called Next o v)
+      next : (qs : List Quad) → left l v ≡ qs → Listed l w
       next [] f =
-          let said : ended ≡ o = sym (due ∙ ap (λ xs. gaveOr (foremost xs)) f) in
-          subst (λ x. Listed l (called Next x v)) said (listed-quiet v Next ended refl (λ q. refl) (ih v refl))
+          let said : o ≡ ended = due ∙ ap (λ xs. gaveOr (foremost xs)) f in
+          let same : Some (further ends v) ≡ Some w = ap (λ x. stepped (nextTells x) (Some v)) (sym said) ∙ e in
+          let is : further ends v ≡ w = cc in
+          subst (Listed l) is (listed-end v f (ih v refl))
       next (q ∷ rest) f =
-          let said : gave q ≡ o = sym (due ∙ ap (λ xs. gaveOr (foremost xs)) f) in
-          subst (λ x. Listed l (called Next x v)) said (listed-next v q rest f (ih v refl))
+          let said : o ≡ gave q = due ∙ ap (λ xs. gaveOr (foremost xs)) f in
+          let same : Some (further (gives q) v) ≡ Some w = ap (λ x. stepped (nextTells x) (Some v)) (sym said) ∙ e in
+          let is : further (gives q) v ≡ w = cc in
+          subst (Listed l) is (listed-next v q rest f (ih v refl))
 
   -- a granted call came to what is due in the opening
-  granted-due : (k : ℕ) (before : Option Opening) (ask : Ask) (o : Outcome) → granted o ≡ true → o ≡ dueOn l k before ask → o ≡ dueIn l before ask
+  granted-due : (k : ℕ) (before : Option Opening) (ask : Ask) (o : Outcome) → granted o ≡ true → o ≡ tried k ask (dueIn l before ask) → o ≡ dueIn l before ask
   granted-due k before ask o g due = go (ltb 7 k) (asksOnlyIds ask) due
     where
       go : (a b : Bool) → o ≡ cond a (refused 11) (cond b (dueIn l before ask) (refused 12)) → o ≡ dueIn l before ask
-      go true b e = let z : false ≡ true = sym (ap granted e) ∙ g in absurd (both-ways true (sym z) refl)
+      go true b e = absurd (both-ways false refl (sym (ap granted e) ∙ g))
       go false true e = e
-      go false false e = let z : false ≡ true = sym (ap granted e) ∙ g in absurd (both-ways true (sym z) refl)
+      go false false e = absurd (both-ways false refl (sym (ap granted e) ∙ g))
 
   listed-step : (h : History) (k : ℕ) (w : Opening) (call : Call) (o : Outcome) → ((v : Opening) → openingOf k h ≡ Some v → Listed l v) → Due l h call o → afterCall k call o (openingOf k h) ≡ Some w → Listed l w
   listed-step h k w (On j ask) o ih due f =
@@ -199,8 +191,8 @@ module _ (l : Listing) (ascending : strictlyAscends quadBelow (l .quads) ≡ tru
       (λ t.
       let parts = and-parts (eqb j k) (granted o) t in
       let same : j ≡ k = eqb-true j k (parts .0) in
-      listed-granted w (openingOf k h) ask o (parts .1) ih
-      (granted-due k (openingOf k h) ask o (parts .1) (due ∙ ap (λ i. dueOn l i (openingOf i h) ask) same))
+      listed-granted w (openingOf k h) ask o ih
+      (granted-due k (openingOf k h) ask o (parts .1) (due ∙ ap (λ i. tried i ask (dueIn l (openingOf i h) ask)) same))
       (sym (cond-true (eqb j k && granted o) (afterGranted ask o (openingOf k h)) (openingOf k h) t) ∙ f))
       (λ n. ih w (sym (cond-false (eqb j k && granted o) (afterGranted ask o (openingOf k h)) (openingOf k h) n) ∙ f))
       (cases-bool (eqb j k && granted o))
@@ -222,6 +214,6 @@ module _ (l : Listing) (ascending : strictlyAscends quadBelow (l .quads) ≡ tru
   law-from-answered h a =
       record {
         answered = a;
-        listed = λ before k w e. opening-listed (drop before h) (answered-before before h a) k w e;
+        listed = λ later k w e. opening-listed (drop later h) (answered-before later h a) k w e;
         apart = λ k other b e. cursors-apart l k h other a b e;
       }

@@ -8,7 +8,6 @@ use native.Mathlib.Omega.{arith}
 use lib.Dec.{eqb}
 use lib.ListN.{length, length-append}
 use Rattle.std.specs.shelf.Lists.{kept-by}
-use Rattle.std.proofs.shelf.Lists.{append-nil}
 use Rattle.std.proofs.shelf.Tests.{and-parts, and-from, and-left, and-right, cases-bool, both-ways, eqb-true, eq-eqb, not-true, not-from-true, not-from-false}
 use Rattle.ordered.specs.Lists.{each}
 use Rattle.ordered.specs.Order.{TotalOrder}
@@ -20,10 +19,7 @@ use Rattle.quads.specs.Listings.{Listing, matching, notBelow}
 use Rattle.quads.specs.Marks.{between}
 use Rattle.quads.specs.declared.quad.Quad.{Quad}
 use Rattle.quads.specs.declared.pattern.Pattern.{Pattern}
-use Rattle.session.specs.Histories.{Granted, Opening, has, givenBy, given, jumpedBy, jumped, seeksPast, nextGave, left, newlyJumped}
-use Rattle.session.specs.Outcomes.{Outcome, gave}
-use Rattle.session.specs.declared.call.Ask.{Ask}
-use Rattle.session.specs.declared.call.Ask.the-variants.{Open, Next, Seek, Left, Close}
+use Rattle.session.specs.Histories.{Step, gives, ends, seeks, Opening, has, given, jumped, left}
 
 -- quads by their numbers
 pub sameQuad-true : (x y : Quad) → sameQuad x y ≡ true → x ≡ y
@@ -73,21 +69,15 @@ kept-and s t (x ∷ xs) =
     (λ a. kept-no (λ y. s y && t y) x xs (and-left _ _ a) ∙ ih ∙ sym (ap (kept-by t) (kept-no s x xs a)))
     (cases-bool (s x))
 
-quiet-test : (g j n : Bool) → (not g && not (j || (false && n))) ≡ (not g && not j)
-quiet-test true true n = refl
-quiet-test true false n = refl
-quiet-test false true n = refl
-quiet-test false false n = refl
-
-next-test : (g s j n : Bool) → (not (g || (s || false)) && not (j || (false && n))) ≡ ((not g && not j) && not s)
-next-test true true true n = refl
-next-test true true false n = refl
-next-test true false true n = refl
-next-test true false false n = refl
-next-test false true true n = refl
-next-test false true false n = refl
-next-test false false true n = refl
-next-test false false false n = refl
+next-test : (g s j : Bool) → (not (g || (s || false)) && not j) ≡ ((not g && not j) && not s)
+next-test true true true = refl
+next-test true true false = refl
+next-test true false true = refl
+next-test true false false = refl
+next-test false true true = refl
+next-test false true false = refl
+next-test false false true = refl
+next-test false false false = refl
 
 seek-test : (g j b : Bool) → (not g && not (j || (b && not g))) ≡ ((not g && not j) && not b)
 seek-test true true true = refl
@@ -99,52 +89,48 @@ seek-test false true false = refl
 seek-test false false true = refl
 seek-test false false false = refl
 
--- the opening with one more call
-abbrev pub called : Ask → Outcome → Opening → Opening
-called ask o w = record { pattern = w .pattern; calls = record { ask = ask; outcome = o } ∷ w .calls }
+-- the opening one step on
+abbrev pub further : Step → Opening → Opening
+further s w = record { pattern = w .pattern; steps = s ∷ w .steps }
 
 module _ (l : Listing) (w : Opening) where
-  -- a call that gives no quad and seeks no mark
-  pub quiet-given : (ask : Ask) (o : Outcome) → nextGave ask o ≡ [] → given (called ask o w) ≡ given w
-  unfolding givenBy
-  quiet-given ask o e = ap (λ xs. given w ++ xs) e ∙ append-nil (given w)
+  -- a next that answered end
+  pub end-left : left l (further ends w) ≡ left l w
+  unfolding left given jumped
+  end-left = refl
 
-  pub quiet-left : (ask : Ask) (o : Outcome) → nextGave ask o ≡ [] → ((q : Quad) → seeksPast ask q ≡ false) → left l (called ask o w) ≡ left l w
-  unfolding left jumpedBy
-  quiet-left ask o e f =
-      kept-same (λ q. not (has (given (called ask o w)) q) && not (jumped (called ask o w) q)) (λ q. not (has (given w) q) && not (jumped w q))
-      (λ q.
-      ap (λ xs. not (has xs q) && not (jumped (called ask o w) q)) (quiet-given ask o e)
-      ∙ ap (λ b. not (has (given w) q) && not (jumped w q || (b && not (has (given w) q)))) (f q)
-      ∙ quiet-test (has (given w) q) (jumped w q) (not (has (given w) q)))
-      (matching l (w .pattern))
+  pub end-given : given (ends ∷ w .steps) ≡ given (w .steps)
+  unfolding given
+  end-given = refl
 
   -- a next that gave a quad
-  pub next-given : (q : Quad) → given (called Next (gave q) w) ≡ given w ++ q ∷ []
-  unfolding givenBy
+  pub next-given : (q : Quad) → given (gives q ∷ w .steps) ≡ given (w .steps) ++ q ∷ []
+  unfolding given
   next-given q = refl
 
-  pub next-left : (q : Quad) → left l (called Next (gave q) w) ≡ kept-by (λ x. not (sameQuad x q)) (left l w)
-  unfolding left jumpedBy
+  pub next-left : (q : Quad) → left l (further (gives q) w) ≡ kept-by (λ x. not (sameQuad x q)) (left l w)
+  unfolding left jumped
   next-left q =
-      kept-same (λ x. not (has (given (called Next (gave q) w)) x) && not (jumped (called Next (gave q) w) x)) (λ x. (not (has (given w) x) && not (jumped w x)) && not (sameQuad x q))
+      kept-same (λ x. not (has (given (gives q ∷ w .steps)) x) && not (jumped (gives q ∷ w .steps) x)) (λ x. (not (has (given (w .steps)) x) && not (jumped (w .steps) x)) && not (sameQuad x q))
       (λ x.
-      ap (λ xs. not (has xs x) && not (jumped (called Next (gave q) w) x)) (next-given q)
-      ∙ ap (λ b. not b && not (jumped (called Next (gave q) w) x)) (has-append (given w) (q ∷ []) x)
-      ∙ next-test (has (given w) x) (sameQuad x q) (jumped w x) (not (has (given w) x)))
+      ap (λ xs. not (has xs x) && not (jumped (w .steps) x)) (next-given q)
+      ∙ ap (λ b. not b && not (jumped (w .steps) x)) (has-append (given (w .steps)) (q ∷ []) x)
+      ∙ next-test (has (given (w .steps)) x) (sameQuad x q) (jumped (w .steps) x))
       (matching l (w .pattern))
-      ∙ kept-and (λ x. not (has (given w) x) && not (jumped w x)) (λ x. not (sameQuad x q)) (matching l (w .pattern))
+      ∙ kept-and (λ x. not (has (given (w .steps)) x) && not (jumped (w .steps) x)) (λ x. not (sameQuad x q)) (matching l (w .pattern))
 
   -- a seek
-  pub seek-left : (mark : Quad) (o : Outcome) → left l (called (Seek mark) o w) ≡ kept-by (λ x. not (quadBelow x mark)) (left l w)
-  unfolding left jumpedBy
-  seek-left mark o =
-      kept-same (λ x. not (has (given (called (Seek mark) o w)) x) && not (jumped (called (Seek mark) o w) x)) (λ x. (not (has (given w) x) && not (jumped w x)) && not (quadBelow x mark))
-      (λ x.
-      ap (λ xs. not (has xs x) && not (jumped (called (Seek mark) o w) x)) (quiet-given (Seek mark) o refl)
-      ∙ seek-test (has (given w) x) (jumped w x) (quadBelow x mark))
+  pub seek-given : (mark : Quad) → given (seeks mark ∷ w .steps) ≡ given (w .steps)
+  unfolding given
+  seek-given mark = refl
+
+  pub seek-left : (mark : Quad) → left l (further (seeks mark) w) ≡ kept-by (λ x. not (quadBelow x mark)) (left l w)
+  unfolding left given jumped
+  seek-left mark =
+      kept-same (λ x. not (has (given (w .steps)) x) && not (jumped (seeks mark ∷ w .steps) x)) (λ x. (not (has (given (w .steps)) x) && not (jumped (w .steps) x)) && not (quadBelow x mark))
+      (λ x. seek-test (has (given (w .steps)) x) (jumped (w .steps) x) (quadBelow x mark))
       (matching l (w .pattern))
-      ∙ kept-and (λ x. not (has (given w) x) && not (jumped w x)) (λ x. not (quadBelow x mark)) (matching l (w .pattern))
+      ∙ kept-and (λ x. not (has (given (w .steps)) x) && not (jumped (w .steps) x)) (λ x. not (quadBelow x mark)) (matching l (w .pattern))
 
 -- the first of an ascending list taken away
 pub kept-others : (q : Quad) (rest : List Quad) → sorted quadBelow quad-order (q ∷ rest) ≡ true → kept-by (λ x. not (sameQuad x q)) (q ∷ rest) ≡ rest

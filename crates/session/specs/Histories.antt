@@ -1,6 +1,6 @@
 -- What is read from the calls on a session since attaching, with their outcomes. Assumes nothing.
 use mathlib.Core.Bool.{Bool, true, false, cond, not, _&&_, _||_}
-use mathlib.Core.List.{List, [], _∷_, _++_}
+use mathlib.Core.List.{List, [], _∷_, _++_, map}
 use Prim.Native.Nat.{ℕ, _+_}
 use lib.Dec.{eqb, ltb}
 use lib.ListN.{length}
@@ -37,32 +37,53 @@ granted (counted n) = true
 granted (rolled n ks) = true
 granted (refused n) = false
 
--- a call that was granted in an opening, with its outcome
-pub record Granted : Type 0 where
-  pub ask : Ask
-  pub outcome : Outcome
+-- what a call that was granted tells of its opening: a next gave a quad, a next answered end, or a seek named a mark
+pub data Step : Type 0 where
+  gives : Quad → Step
+  ends : Step
+  seeks : Quad → Step
 
--- an opening: the pattern that a granted open named, and the calls granted to the cursor since then, the newest first
+abbrev pub nextTells : Outcome → List Step
+nextTells opened = []
+nextTells (gave q) = gives q ∷ []
+nextTells ended = ends ∷ []
+nextTells (counted n) = []
+nextTells (rolled n ks) = []
+nextTells (refused n) = []
+
+abbrev pub tells : Ask → Outcome → List Step
+tells (Open p) o = []
+tells Next o = nextTells o
+tells (Seek mark) o = seeks mark ∷ []
+tells Left o = []
+tells Close o = []
+
+-- an opening: the pattern that a granted open named, and what the calls granted since then tell, the newest first
 pub record Opening : Type 0 where
   pub pattern : Pattern
-  pub calls : List Granted
+  pub steps : List Step
 
--- one more call in the opening, if there is one
-abbrev pub withCall : Ask → Outcome → Option Opening → Option Opening
-withCall ask o None = None
-withCall ask o (Some w) = Some (record { pattern = w .pattern; calls = record { ask = ask; outcome = o } ∷ w .calls })
+abbrev pub stepped : List Step → Option Opening → Option Opening
+stepped ss None = None
+stepped ss (Some w) = Some (record { pattern = w .pattern; steps = ss ++ w .steps })
 
 -- the opening after a granted call: it lasts from a granted open to the next granted close
 abbrev pub afterGranted : Ask → Outcome → Option Opening → Option Opening
-afterGranted (Open p) o w = Some (record { pattern = p; calls = [] })
-afterGranted Next o w = withCall Next o w
-afterGranted (Seek mark) o w = withCall (Seek mark) o w
-afterGranted Left o w = withCall Left o w
+afterGranted (Open p) o w = Some (record { pattern = p; steps = [] })
+afterGranted Next o w = stepped (tells Next o) w
+afterGranted (Seek mark) o w = stepped (tells (Seek mark) o) w
+afterGranted Left o w = w
 afterGranted Close o w = None
 
 -- which calls name which cursor: those that ask something of it
+abbrev pub names : ℕ → Call → Bool
+names k (On j ask) = eqb j k
+names k Tally = false
+names k (Roll room) = false
+
+-- only a granted call that names the cursor changes its opening
 abbrev pub afterCall : ℕ → Call → Outcome → Option Opening → Option Opening
-afterCall k (On j ask) o w = cond (eqb j k && granted o) (afterGranted ask o w) w
+afterCall k (On j ask) o w = cond (names k (On j ask) && granted o) (afterGranted ask o w) w
 afterCall k Tally o w = w
 afterCall k (Roll room) o w = w
 
@@ -76,103 +97,49 @@ abbrev pub has : List Quad → Quad → Bool
 has [] q = false
 has (x ∷ xs) q = sameQuad q x || has xs q
 
--- the quad that a next answered
-abbrev pub nextGave : Ask → Outcome → List Quad
-nextGave (Open p) o = []
-nextGave Next opened = []
-nextGave Next (gave q) = q ∷ []
-nextGave Next ended = []
-nextGave Next (counted n) = []
-nextGave Next (rolled n ks) = []
-nextGave Next (refused n) = []
-nextGave (Seek mark) o = []
-nextGave Left o = []
-nextGave Close o = []
-
 -- given: the quads that the nexts of the opening answered, in the order in which they came
-unfoldable pub givenBy : List Granted → List Quad
-givenBy [] = []
-givenBy (c ∷ cs) = givenBy cs ++ nextGave (c .ask) (c .outcome)
-
-abbrev pub given : Opening → List Quad
-given w = givenBy (w .calls)
-
--- a seek names a mark above the quad
-abbrev pub seeksPast : Ask → Quad → Bool
-seeksPast (Open p) q = false
-seeksPast Next q = false
-seeksPast (Seek mark) q = quadBelow q mark
-seeksPast Left q = false
-seeksPast Close q = false
+unfoldable pub given : List Step → List Quad
+given [] = []
+given (gives q ∷ ss) = given ss ++ q ∷ []
+given (ends ∷ ss) = given ss
+given (seeks mark ∷ ss) = given ss
 
 -- jumped: a seek of the opening named a mark above the quad while the quad was not yet given
-unfoldable pub jumpedBy : List Granted → Quad → Bool
-jumpedBy [] q = false
-jumpedBy (c ∷ cs) q = jumpedBy cs q || (seeksPast (c .ask) q && not (has (givenBy cs) q))
-
-abbrev pub jumped : Opening → Quad → Bool
-jumped w q = jumpedBy (w .calls) q
+unfoldable pub jumped : List Step → Quad → Bool
+jumped [] q = false
+jumped (gives x ∷ ss) q = jumped ss q
+jumped (ends ∷ ss) q = jumped ss q
+jumped (seeks mark ∷ ss) q = jumped ss q || (quadBelow q mark && not (has (given ss) q))
 
 -- left: the matching quads that are neither given nor jumped, in order
 unfoldable pub left : Listing → Opening → List Quad
-left l w = kept-by (λ q. not (has (given w) q) && not (jumped w q)) (matching l (w .pattern))
+left l w = kept-by (λ q. not (has (given (w .steps)) q) && not (jumped (w .steps) q)) (matching l (w .pattern))
 
 -- the quads that a seek to this mark newly jumps: those left that are below it
 unfoldable pub newlyJumped : Listing → Opening → Quad → List Quad
 newlyJumped l w mark = kept-by (λ q. quadBelow q mark) (left l w)
 
--- a next answered end
-abbrev pub saysEnd : Ask → Outcome → Bool
-saysEnd (Open p) o = false
-saysEnd Next opened = false
-saysEnd Next (gave q) = false
-saysEnd Next ended = true
-saysEnd Next (counted n) = false
-saysEnd Next (rolled n ks) = false
-saysEnd Next (refused n) = false
-saysEnd (Seek mark) o = false
-saysEnd Left o = false
-saysEnd Close o = false
-
 -- ended: a next of the opening answered end
-unfoldable pub endedBy : List Granted → Bool
-endedBy [] = false
-endedBy (c ∷ cs) = saysEnd (c .ask) (c .outcome) || endedBy cs
-
-abbrev pub hasEnded : Opening → Bool
-hasEnded w = endedBy (w .calls)
-
--- how a call moves the cursor's mark
-abbrev pub markAfterNext : Outcome → Quad → Quad
-markAfterNext opened mark = mark
-markAfterNext (gave q) mark = rightAfter q
-markAfterNext ended mark = mark
-markAfterNext (counted n) mark = mark
-markAfterNext (rolled n ks) mark = mark
-markAfterNext (refused n) mark = mark
-
-abbrev pub markAfter : Ask → Outcome → Quad → Quad
-markAfter (Open p) o mark = mark
-markAfter Next o mark = markAfterNext o mark
-markAfter (Seek to) o mark = to
-markAfter Left o mark = mark
-markAfter Close o mark = mark
+unfoldable pub hasEnded : List Step → Bool
+hasEnded [] = false
+hasEnded (gives q ∷ ss) = hasEnded ss
+hasEnded (ends ∷ ss) = true
+hasEnded (seeks mark ∷ ss) = hasEnded ss
 
 -- the cursor's mark: what the last seek named, or right after the quad that a later next gave, and at first the lowest mark
-unfoldable pub markBy : List Granted → Quad
-markBy [] = lowest
-markBy (c ∷ cs) = markAfter (c .ask) (c .outcome) (markBy cs)
-
-abbrev pub markOf : Opening → Quad
-markOf w = markBy (w .calls)
+unfoldable pub markOf : List Step → Quad
+markOf [] = lowest
+markOf (gives q ∷ ss) = rightAfter q
+markOf (ends ∷ ss) = markOf ss
+markOf (seeks mark ∷ ss) = mark
 
 -- how many quads a call gave: one or none
 abbrev pub givenIn : Call → Outcome → ℕ
-givenIn (On k ask) o = length (nextGave ask o)
+givenIn (On k ask) o = length (given (tells ask o))
 givenIn Tally o = 0
 givenIn (Roll room) o = 0
 
--- how many quads were given since attaching: the nexts of all openings of all cursors, added up
+-- how many quads were given since attaching: by the nexts of all openings of all cursors, added up
 unfoldable pub givenSince : History → ℕ
 givenSince [] = 0
 givenSince (e ∷ h) = givenSince h + givenIn (e .call) (e .outcome)
@@ -181,22 +148,10 @@ givenSince (e ∷ h) = givenSince h + givenIn (e .call) (e .outcome)
 unfoldable pub isOpenIn : History → ℕ → Bool
 isOpenIn h k = ltb k 8 && isSome (openingOf k h)
 
-abbrev pub asksIn : ℕ → Call → List Ask
-asksIn k (On j ask) = cond (eqb j k) (ask ∷ []) []
-asksIn k Tally = []
-asksIn k (Roll room) = []
+-- the calls that name the cursor, with what came of them, whatever stands between
+unfoldable pub on : ℕ → History → History
+on k h = kept-by (λ e. names k (e .call)) h
 
--- what was asked of a cursor, the newest first, whatever stands between
-unfoldable pub asksOf : ℕ → History → List Ask
-asksOf k [] = []
-asksOf k (e ∷ h) = asksIn k (e .call) ++ asksOf k h
-
-abbrev pub answersIn : ℕ → Call → Outcome → List Outcome
-answersIn k (On j ask) o = cond (eqb j k) (o ∷ []) []
-answersIn k Tally o = []
-answersIn k (Roll room) o = []
-
--- and what came of it
-unfoldable pub answersOf : ℕ → History → List Outcome
-answersOf k [] = []
-answersOf k (e ∷ h) = answersIn k (e .call) (e .outcome) ++ answersOf k h
+-- the calls alone
+abbrev pub calls : History → List Call
+calls h = map (λ e. e .call) h

@@ -3,7 +3,6 @@ use mathlib.Core.Bool.{Bool, true, false, cond, not}
 use mathlib.Core.List.{List, [], _∷_}
 use mathlib.Core.Path.{_≡_}
 use Prim.Native.Nat.{ℕ, _≤_, _<_}
-use lib.Dec.{ltb}
 use lib.ListN.{length, drop}
 use Rattle.std.specs.Iters.{counting}
 use Rattle.std.specs.shelf.Lists.{kept-by}
@@ -15,8 +14,8 @@ use Rattle.quads.specs.Counts.{capped}
 use Rattle.quads.specs.Quads.{quadBelow}
 use Rattle.quads.specs.Listings.{Listing, matching}
 use Rattle.quads.specs.declared.quad.Quad.{Quad}
-use Rattle.session.specs.Asks.{asksOnlyIds}
-use Rattle.session.specs.Histories.{Event, History, Opening, openingOf, has, given, jumped, left, newlyJumped, hasEnded, markOf, givenSince, isOpenIn, asksOf, answersOf}
+use Rattle.session.specs.Asks.{tried}
+use Rattle.session.specs.Histories.{Event, History, Opening, openingOf, has, given, jumped, left, newlyJumped, hasEnded, markOf, givenSince, isOpenIn, on, calls}
 use Rattle.session.specs.Outcomes.{Outcome, opened, gave, ended, counted, rolled, refused, gaveOr, occurrences}
 use Rattle.session.specs.declared.call.Ask.{Ask}
 use Rattle.session.specs.declared.call.Ask.the-variants.{Open, Next, Seek, Left, Close}
@@ -35,13 +34,9 @@ dueIn l None Left = refused 21
 dueIn l None Close = refused 21
 dueIn l (Some w) (Open p) = refused 22
 dueIn l (Some w) Next = gaveOr (foremost (left l w))
-dueIn l (Some w) (Seek mark) = cond (hasEnded w) (refused 23) (cond (quadBelow mark (markOf w)) (refused 24) (counted (capped (length (newlyJumped l w mark)))))
+dueIn l (Some w) (Seek mark) = cond (hasEnded (w .steps)) (refused 23) (cond (quadBelow mark (markOf (w .steps))) (refused 24) (counted (capped (length (newlyJumped l w mark)))))
 dueIn l (Some w) Left = counted (capped (length (left l w)))
-dueIn l (Some w) Close = counted (capped (length (given w)))
-
--- the input is tried first: 11 for a cursor above 7, then 12 for a given number that is no ID
-abbrev pub dueOn : Listing → ℕ → Option Opening → Ask → Outcome
-dueOn l k w ask = cond (ltb 7 k) (refused 11) (cond (asksOnlyIds ask) (dueIn l w ask) (refused 12))
+dueIn l (Some w) Close = counted (capped (length (given (w .steps))))
 
 -- how many cursors are open
 abbrev pub numberOpen : History → ℕ
@@ -58,7 +53,7 @@ DueRoll h room (refused n) = (room < numberOpen h) × (n ≡ 25)
 
 -- what has to come of a call after the calls of this history
 abbrev pub Due : Listing → History → Call → Outcome → Type 0
-Due l h (On k ask) o = o ≡ dueOn l k (openingOf k h) ask
+Due l h (On k ask) o = o ≡ tried k ask (dueIn l (openingOf k h) ask)
 Due l h Tally o = o ≡ counted (capped (givenSince h))
 Due l h (Roll room) o = DueRoll h room o
 
@@ -68,18 +63,20 @@ Answered l [] = Unit {0}
 Answered l (e ∷ h) = Due l h (e .call) (e .outcome) × Answered l h
 
 -- of an opening: the quads given are in the listing and match; they came in ascending order, so none came twice; none of
--- them was jumped; those left ascend too, so that the first of them is the least; and each quad left is above all given
+-- them was jumped; those left ascend too, so that the first of them is the least; each quad left is above all given; and
+-- once a next has answered end, none is left
 pub record Listed (l : Listing) (w : Opening) : Type 0 where
-  pub matches : each (has (matching l (w .pattern))) (given w) ≡ true
-  pub ascends : strictlyAscends quadBelow (given w) ≡ true
-  pub unjumped : each (λ q. not (jumped w q)) (given w) ≡ true
+  pub found : each (has (matching l (w .pattern))) (given (w .steps)) ≡ true
+  pub ascending : strictlyAscends quadBelow (given (w .steps)) ≡ true
+  pub unjumped : each (λ q. not (jumped (w .steps) q)) (given (w .steps)) ≡ true
   pub leastFirst : strictlyAscends quadBelow (left l w) ≡ true
-  pub above : each (λ q. each (quadBelow q) (left l w)) (given w) ≡ true
+  pub above : each (λ q. each (quadBelow q) (left l w)) (given (w .steps)) ≡ true
+  pub complete : hasEnded (w .steps) ≡ true → left l w ≡ []
 
--- the law: every answer was due; at every earlier time too (the newest calls, `before` of them, taken away) the opening of
--- every open cursor was as `Listed` says; and a cursor of which the same is asked, over the same listing, answers the same,
--- whatever is asked of the others
+-- the law: each call came to what was due; at every earlier time too, with the later calls taken away, the opening of every
+-- open cursor is as `Listed` says; and whoever makes the same calls on a cursor over the same listing, whatever else is
+-- called, has the same answers to them
 pub record Law (l : Listing) (h : History) : Type 0 where
   pub answered : Answered l h
-  pub listed : (before k : ℕ) (w : Opening) → openingOf k (drop before h) ≡ Some w → Listed l w
-  pub apart : (k : ℕ) (other : History) → Answered l other → asksOf k other ≡ asksOf k h → answersOf k other ≡ answersOf k h
+  pub listed : (later k : ℕ) (w : Opening) → openingOf k (drop later h) ≡ Some w → Listed l w
+  pub apart : (k : ℕ) (other : History) → Answered l other → calls (on k other) ≡ calls (on k h) → on k other ≡ on k h

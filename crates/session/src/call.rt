@@ -16,7 +16,7 @@ pub enum Ask {
     Seek(Mark),
     // Count the quads that are left.
     Left,
-    // End this opening.
+    // Close the cursor.
     Close,
 }
 

@@ -1,4 +1,4 @@
-// A cursor: one listing in progress.
+// A cursor: one question in progress.
 use quads::Mark;
 use quads::Pattern;
 

@@ -1,6 +1,6 @@
 // Writing the numbers of the open cursors.
 ghost use Rattle.session.specs.Rolls.{isOpen, isOpenAt, openCursors, rollOutcome, RollWrote};
-ghost use Rattle.session.specs.Outcomes.{ofCount};
+ghost use Rattle.session.specs.Outcomes.{RollLeft, ofCount};
 ghost use Prim.Native.Nat.{_≤_, _<_};
 ghost use lib.ListN.{length, take, drop};
 ghost use mathlib.Core.Path.{_≡_};
@@ -60,7 +60,8 @@ impl Table {
     // Writes the numbers of the open cursors where there is room for them, and answers how many.
     pub(crate) fn roll(&self, buffer: &mut [u32]) -> Result<usize, Refusal>
         ensures answer { λ r. ⌜ ofCount r ≡ rollOutcome (now (self .entry)) (length (now (buffer .entry))) ⌝ }
-        ensures wrote { λ r. ⌜ RollWrote (now (self .entry)) (now (buffer .entry)) (now (buffer .exit)) r ⌝ }
+        ensures wrote { λ r. ⌜ RollWrote (now (self .entry)) (now (buffer .exit)) r ⌝ }
+        ensures rest { λ r. ⌜ RollLeft r (now (buffer .entry)) (now (buffer .exit)) ⌝ }
     {
         if buffer.len() < self.count_open() {
             return Err(Refusal::BufferShort);

@@ -1,7 +1,7 @@
 // The session: a source and its eight cursors, and the calls on them. No call has anything for its caller to test
 // beforehand, and one that is turned down changes nothing.
 ghost use Rattle.session.specs.Keeps.{Keeps, Follows};
-ghost use Rattle.session.specs.Outcomes.{counted, ofOpen, ofNext, ofCount, ofRoll};
+ghost use Rattle.session.specs.Outcomes.{RollLeft, counted, ofOpen, ofNext, ofCount, ofRoll};
 ghost use Rattle.session.specs.Rolls.{rollOutcome, RollWrote};
 ghost use Rattle.session.specs.Tables.{askOutcome, askAfter, newTable};
 ghost use Rattle.session.specs.declared.call.Ask.the-variants.{Open, Next, Seek, Left, Close};
@@ -101,7 +101,8 @@ impl<'a, S: QuadSource> Session<'a, S> {
     // Writes the numbers of the open cursors, each just once, at the front of the buffer, and answers how many.
     pub fn roll(&self, buffer: &mut [u32]) -> Result<usize, Refusal>
         ensures answer { λ r. ⌜ ofCount r ≡ rollOutcome (now (self .entry) .table) (length (now (buffer .entry))) ⌝ }
-        ensures wrote { λ r. ⌜ RollWrote (now (self .entry) .table) (now (buffer .entry)) (now (buffer .exit)) r ⌝ }
+        ensures wrote { λ r. ⌜ RollWrote (now (self .entry) .table) (now (buffer .exit)) r ⌝ }
+        ensures rest { λ r. ⌜ RollLeft r (now (buffer .entry)) (now (buffer .exit)) ⌝ }
         ensures law { λ r. ⌜ Follows (means (now (now (self .entry) .source))) (now (self .entry) .table) (Roll (length (now (buffer .entry)))) (ofRoll r (now (buffer .exit))) (now (self .entry) .table) ⌝ }
     {
         self.table.roll(buffer)

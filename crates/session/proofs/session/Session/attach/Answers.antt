@@ -6,5 +6,6 @@ use Rattle.session.proofs.session.Session.attach.Needs as need
 
 pub returns : need.returns
 returns g c =
-    let l = g .S·QuadSource .means (c .args .source .now) in
-    record { source = refl; closed = c .new .ensures; law = subst (Keeps l []) (sym (c .new .ensures)) (keeps-none l) }
+    let q = g .S·QuadSource in
+    let s = c .args .source .now in
+    record { source = refl; closed = c .new .ensures; law = subst (Keeps (q .means s) []) (sym (c .new .ensures)) (keeps-none (q .means s) (q .ascending s) (q .ids s)) }

@@ -4,6 +4,12 @@ use Rattle.session.proofs.session.Session.roll.Needs as need
 
 pub returns : need.returns
 returns g c =
-    let l = g .S·QuadSource .means (c .args .self .now .source .now) in
+    let q = g .S·QuadSource in
+    let s = c .args .self .now .source .now in
     let told = c .roll .ensures in
-    record { answer = told .answer; wrote = told .wrote; law = roll-follows l (c .args .self .now .table) (c .args .buffer .now) _ _ (omega arith) (told .answer) (told .wrote) }
+    record {
+      answer = told .answer;
+      wrote = told .wrote;
+      rest = told .rest;
+      law = roll-follows (q .means s) (q .ascending s) (q .ids s) (c .args .self .now .table) (c .args .buffer .now) _ _ (omega arith) (told .answer) (told .wrote);
+    }
