@@ -80,26 +80,31 @@ CursorFollows l w c ask = (cursorOutcome l c ask ≡ dueIn l w ask) × Stands l 
 module _ (l : Listing) (ascending : strictlyAscends quadBelow (l .quads) ≡ true) (ids : each hasIds (l .quads) ≡ true) where
   opens : (p : Pattern) → StandsIn l (Some (record { pattern = p; steps = [] })) (openedAt p) (Waiting lowest)
   unfolding hasEnded markOf given
-  opens p =
-      (record { pattern = p; steps = [] }, refl, record {
-        pattern = refl;
-        unended = refl;
-        at = refl;
-        rest = fresh-left l p ∙ sym (from-lowest (matching l p));
-        count = capped-zero;
-      })
+  opens p = (
+    record { pattern = p; steps = [] },
+    refl,
+    record {
+      pattern = refl;
+      unended = refl;
+      at = refl;
+      rest = fresh-left l p ∙ sym (from-lowest (matching l p));
+      count = capped-zero;
+    },
+  )
 
   -- next at a mark
   next-none : (v : Opening) (p : Pattern) (n : ℕ) (mark : Quad) → Waits l v (cursorOf (Waiting mark) p n) mark → firstFrom l p mark ≡ None → (ended ≡ gaveOr (foremost (left l v))) × Finished l (further ends v) (cursorOf Ended p n)
   unfolding hasEnded
   next-none v p n mark h e =
-      let none : left l v ≡ [] = h .rest ∙ ap (λ r. notBelow mark (matching l r)) (h .pattern) ∙ first-none l p mark e in
-      (ap (λ qs. gaveOr (foremost qs)) (sym none), record {
-        pattern = h .pattern;
-        done = refl;
-        rest = end-left l v ∙ none;
-        count = h .count ∙ ap (λ qs. capped (length qs)) (sym (end-given l v));
-      })
+      let none : left l v ≡ [] = h .rest ∙ ap (λ r. notBelow mark (matching l r)) (h .pattern) ∙ first-none l p mark e in (
+        ap (λ qs. gaveOr (foremost qs)) (sym none),
+        record {
+          pattern = h .pattern;
+          done = refl;
+          rest = end-left l v ∙ none;
+          count = h .count ∙ ap (λ qs. capped (length qs)) (sym (end-given l v));
+        },
+      )
 
   next-some : (v : Opening) (p : Pattern) (n : ℕ) (mark q : Quad) → Waits l v (cursorOf (Waiting mark) p n) mark → firstFrom l p mark ≡ Some q
       → (gave q ≡ gaveOr (foremost (left l v))) × Waits l (further (gives q) v) (cursorOf (Waiting (rightAfter q)) p (capped (n + 1))) (rightAfter q)
@@ -108,43 +113,47 @@ module _ (l : Listing) (ascending : strictlyAscends quadBelow (l .quads) ≡ tru
       let found = first-some l p mark q e in
       let rest : left l v ≡ q ∷ found .0 = h .rest ∙ ap (λ r. notBelow mark (matching l r)) (h .pattern) ∙ found .1 in
       let ascends : sorted quadBelow quad-order (q ∷ found .0) ≡ true = subst (λ qs. sorted quadBelow quad-order qs ≡ true) (found .1) (notBelow-sorted l ascending ids p mark) in
-      let more : length (given (gives q ∷ v .steps)) ≡ length (given (v .steps)) + 1 = ap length (next-given l v q) ∙ length-append (given (v .steps)) (q ∷ []) in
-      (ap (λ qs. gaveOr (foremost qs)) (sym rest), record {
-        pattern = h .pattern;
-        unended = h .unended;
-        at = refl;
-        rest =
-            next-left l v q
-            ∙ ap (kept-by (λ x. not (sameQuad x q))) rest
-            ∙ kept-others q (found .0) ascends
-            ∙ sym (notBelow-rightAfter l ascending ids p mark q (found .0) (found .1))
-            ∙ ap (λ r. notBelow (rightAfter q) (matching l r)) (sym (h .pattern));
-        count = ap (λ m. capped (m + 1)) (h .count) ∙ capped-more (length (given (v .steps))) ∙ ap capped (sym more);
-      })
+      let more : length (given (gives q ∷ v .steps)) ≡ length (given (v .steps)) + 1 = ap length (next-given l v q) ∙ length-append (given (v .steps)) (q ∷ []) in (
+        ap (λ qs. gaveOr (foremost qs)) (sym rest),
+        record {
+          pattern = h .pattern;
+          unended = h .unended;
+          at = refl;
+          rest =
+              next-left l v q
+              ∙ ap (kept-by (λ x. not (sameQuad x q))) rest
+              ∙ kept-others q (found .0) ascends
+              ∙ sym (notBelow-rightAfter l ascending ids p mark q (found .0) (found .1))
+              ∙ ap (λ r. notBelow (rightAfter q) (matching l r)) (sym (h .pattern));
+          count = ap (λ m. capped (m + 1)) (h .count) ∙ capped-more (length (given (v .steps))) ∙ ap capped (sym more);
+        },
+      )
 
   -- seek to a mark that is not below
   seek-on : (v : Opening) (p : Pattern) (n : ℕ) (mark to : Quad) → Waits l v (cursorOf (Waiting mark) p n) mark → quadBelow to mark ≡ false
       → (between mark to (matching l p) ≡ newlyJumped l v to) × Waits l (further (seeks to) v) (cursorOf (Waiting to) p n) to
   unfolding hasEnded markOf between newlyJumped
   seek-on v p n mark to h f =
-      let rest : left l v ≡ notBelow mark (matching l p) = h .rest ∙ ap (λ r. notBelow mark (matching l r)) (h .pattern) in
-      (ap (kept-by (λ q. quadBelow q to)) (sym rest), record {
-        pattern = h .pattern;
-        unended = h .unended;
-        at = refl;
-        rest =
-            seek-left l v to
-            ∙ ap (kept-by (λ x. not (quadBelow x to))) rest
-            ∙ notBelow-later mark to (matching l p) f
-            ∙ ap (λ r. notBelow to (matching l r)) (sym (h .pattern));
-        count = h .count ∙ ap (λ qs. capped (length qs)) (sym (seek-given l v to));
-      })
+      let rest : left l v ≡ notBelow mark (matching l p) = h .rest ∙ ap (λ r. notBelow mark (matching l r)) (h .pattern) in (
+        ap (kept-by (λ q. quadBelow q to)) (sym rest),
+        record {
+          pattern = h .pattern;
+          unended = h .unended;
+          at = refl;
+          rest =
+              seek-left l v to
+              ∙ ap (kept-by (λ x. not (quadBelow x to))) rest
+              ∙ notBelow-later mark to (matching l p) f
+              ∙ ap (λ r. notBelow to (matching l r)) (sym (h .pattern));
+          count = h .count ∙ ap (λ qs. capped (length qs)) (sym (seek-given l v to));
+        },
+      )
 
   -- end again
   next-again : (v : Opening) (c : Cursor) → Finished l v c → Finished l (further ends v) c
   unfolding hasEnded
   next-again v c h =
-      record { pattern = h .pattern; done = refl; rest = end-left l v ∙ h .rest; count = h .count ∙ ap (λ qs. capped (length qs)) (sym (end-given l v)); }
+      record { pattern = h .pattern; done = refl; rest = end-left l v ∙ h .rest; count = h .count ∙ ap (λ qs. capped (length qs)) (sym (end-given l v)) }
 
   waiting-next : (w : Option Opening) (v : Opening) (p : Pattern) (n : ℕ) (mark : Quad) → w ≡ Some v → Waits l v (cursorOf (Waiting mark) p n) mark → CursorFollows l w (cursorOf (Waiting mark) p n) Next
   waiting-next w v p n mark e h = go (firstFrom l p mark) refl
@@ -177,9 +186,10 @@ module _ (l : Listing) (ascending : strictlyAscends quadBelow (l .quads) ≡ tru
           → (cond b (refused 24) jumps ≡ dueIn l w (Seek to)) × Stands l (goes w (Seek to) (cond b (refused 24) jumps)) (cond b c (cursorOf (Waiting to) p n))
       go true f = (sym (due true f) ∙ ap (λ z. dueIn l z (Seek to)) (sym e), (v, e, h))
       go false f =
-          let step = seek-on v p n mark to h f in
-          (ap (λ qs. counted (capped (length qs))) (step .0) ∙ sym (due false f) ∙ ap (λ z. dueIn l z (Seek to)) (sym e),
-          (further (seeks to) v, ap (stepped (seeks to ∷ [])) e, step .1))
+          let step = seek-on v p n mark to h f in (
+            ap (λ qs. counted (capped (length qs))) (step .0) ∙ sym (due false f) ∙ ap (λ z. dueIn l z (Seek to)) (sym e),
+            (further (seeks to) v, ap (stepped (seeks to ∷ [])) e, step .1),
+          )
 
   -- by the state and what is asked
   pub cursor-follows : (w : Option Opening) (s : State) (p : Pattern) (n : ℕ) (ask : Ask) → StandsIn l w (cursorOf s p n) s → CursorFollows l w (cursorOf s p n) ask
@@ -196,9 +206,10 @@ module _ (l : Listing) (ascending : strictlyAscends quadBelow (l .quads) ≡ tru
       (ap (λ qs. counted (capped (length qs))) rest ∙ ap (λ z. dueIn l z Left) (sym (h .1)), h)
   cursor-follows w (Waiting mark) p n Close h = (ap counted (h .2 .count) ∙ ap (λ z. dueIn l z Close) (sym (h .1)), refl)
   cursor-follows w Ended p n (Open q) h = (ap (λ z. dueIn l z (Open q)) (sym (h .1)), h)
-  cursor-follows w Ended p n Next h =
-      (ap (λ qs. gaveOr (foremost qs)) (sym (h .2 .rest)) ∙ ap (λ z. dueIn l z Next) (sym (h .1)),
-      (further ends (h .0), ap (stepped (ends ∷ [])) (h .1), next-again (h .0) (cursorOf Ended p n) (h .2)))
+  cursor-follows w Ended p n Next h = (
+    ap (λ qs. gaveOr (foremost qs)) (sym (h .2 .rest)) ∙ ap (λ z. dueIn l z Next) (sym (h .1)),
+    (further ends (h .0), ap (stepped (ends ∷ [])) (h .1), next-again (h .0) (cursorOf Ended p n) (h .2)),
+  )
   cursor-follows w Ended p n (Seek to) h = (sym (cond-true (hasEnded (h .0 .steps)) _ _ (h .2 .done)) ∙ ap (λ z. dueIn l z (Seek to)) (sym (h .1)), h)
   cursor-follows w Ended p n Left h =
       (ap counted (capped-zero ∙ ap (λ qs. capped (length qs)) (sym (h .2 .rest))) ∙ ap (λ z. dueIn l z Left) (sym (h .1)), h)

@@ -104,7 +104,7 @@ module _ (l : Listing) (ascending : strictlyAscends quadBelow (l .quads) ≡ tru
   listed-end : (v : Opening) → left l v ≡ [] → Listed l v → Listed l (further ends v)
   unfolding given jumped left
   listed-end v e h =
-      record { found = h .found; ascending = h .ascending; unjumped = h .unjumped; leastFirst = h .leastFirst; above = h .above; complete = λ t. e; }
+      record { found = h .found; ascending = h .ascending; unjumped = h .unjumped; leastFirst = h .leastFirst; above = h .above; complete = λ t. e }
 
   listed-next : (v : Opening) (q : Quad) (rest : List Quad) → left l v ≡ q ∷ rest → Listed l v → Listed l (further (gives q) v)
   unfolding jumped hasEnded

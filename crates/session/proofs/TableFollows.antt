@@ -258,9 +258,10 @@ due-roll l h t before after (Err r) keeps long answer wrote =
 roll-agrees : (l : Listing) (t : Table) (before after : List ℕ) (r : Result ℕ Refusal) → length after ≡ length before
     → ofCount r ≡ rollOutcome t (length before) → RollWrote t after r → (h : History) → Agrees l h t → Due l h (Roll (length before)) (ofRoll r after) × Agrees l (event (Roll (length before)) (ofRoll r after) ∷ h) t
 unfolding openingOf givenSince
-roll-agrees l t before after r long answer wrote h keeps =
-    (due-roll l h t before after r keeps long answer wrote,
-    keeps-same l h t (Roll (length before)) (ofRoll r after) keeps (λ k. refl) (add-zero (givenSince h)))
+roll-agrees l t before after r long answer wrote h keeps = (
+  due-roll l h t before after r keeps long answer wrote,
+  keeps-same l h t (Roll (length before)) (ofRoll r after) keeps (λ k. refl) (add-zero (givenSince h)),
+)
 
 module _ (l : Listing) (ascending : strictlyAscends quadBelow (l .quads) ≡ true) (ids : each hasIds (l .quads) ≡ true) where
   pub tally-follows : (t : Table) → Follows l t Tally (counted (t .given)) t

@@ -9,13 +9,12 @@ use Rattle.std.proofs.shelf.Lists.{map-append, map-set, reverse-append, take-mo
 use Rattle.quads.specs.Listings.{Listing}
 use Rattle.session.specs.Histories.{Event, History}
 use Rattle.session.specs.Keeps.{Keeps, Follows}
-use Rattle.session.specs.Law.{Answered}
 use Rattle.quads.specs.declared.pattern.Place.the-variants.{Any}
 use Rattle.session.specs.declared.call.Ask.the-variants.{Open}
 use Rattle.session.specs.declared.call.Call.the-variants.{On}
 use Rattle.session.specs.declared.call.Call.{Call}
 use Rattle.session.specs.declared.cursor.Table.{Table}
-use Rattle.transcript.specs.Transcripts.{tells, Untouched, eventOf, historyOf, callsOf}
+use Rattle.transcript.specs.Transcripts.{outcomeOf, RestKept, eventOf, historyOf, callsOf}
 use Rattle.transcript.specs.declared.records.Record.{Record}
 use Rattle.transcript.specs.declared.records.Answer.{Answer}
 use Rattle.transcript.specs.declared.records.Answer.the-variants.{Pending}
@@ -43,11 +42,8 @@ module _ (rs : List Record) (i : ℕ) (d : Record) (answer : Answer) (within : i
   history-more : historyOf (take (i + 1) (set rs i made)) ≡ eventOf made ∷ historyOf (take i rs)
   history-more = ap historyOf done ∙ history-push (take i rs) made
 
-  pub keeps-more : (l : Listing) (before after : Table) → Follows l before (getD rs i d .call) (tells answer) after → Keeps l (historyOf (take i rs)) before → Keeps l (historyOf (take (i + 1) (set rs i made))) after
+  pub keeps-more : (l : Listing) (before after : Table) → Follows l before (getD rs i d .call) (outcomeOf answer) after → Keeps l (historyOf (take i rs)) before → Keeps l (historyOf (take (i + 1) (set rs i made))) after
   keeps-more l before after law keeps = subst (λ h. Keeps l h after) (sym history-more) (law (historyOf (take i rs)) keeps .1)
-
-  pub answered-more : (l : Listing) (before after : Table) → Follows l before (getD rs i d .call) (tells answer) after → Keeps l (historyOf (take i rs)) before → Answered l (historyOf (take i rs)) → Answered l (historyOf (take (i + 1) (set rs i made)))
-  answered-more l before after law keeps answered = subst (Answered l) (sym history-more) (law (historyOf (take i rs)) keeps .0, answered)
 
   pub calls-more : callsOf (set rs i made) ≡ callsOf rs
   calls-more =
@@ -55,5 +51,5 @@ module _ (rs : List Record) (i : ℕ) (d : Record) (answer : Answer) (within : i
       ∙ ap (set (callsOf rs) i) (sym (getD-map (λ r. r .call) rs i d (d .call) within))
       ∙ set-getD (callsOf rs) i (d .call)
 
-  pub untouched-more : All (λ r. Untouched (r .answer)) (take i rs) → Untouched answer → All (λ r. Untouched (r .answer)) (take (i + 1) (set rs i made))
-  untouched-more all this = subst (All (λ r. Untouched (r .answer))) (sym done) (all-push (λ r. Untouched (r .answer)) (take i rs) made all this)
+  pub rest-more : All (λ r. RestKept (r .answer)) (take i rs) → RestKept answer → All (λ r. RestKept (r .answer)) (take (i + 1) (set rs i made))
+  rest-more all this = subst (All (λ r. RestKept (r .answer))) (sym done) (all-push (λ r. RestKept (r .answer)) (take i rs) made all this)

@@ -10,29 +10,29 @@ use Rattle.transcript.specs.declared.records.Answer.{Answer}
 use Rattle.transcript.specs.declared.records.Answer.the-variants.{Pending, Opened, Gave, End, Counted, Rolled, Refused}
 use Rattle.transcript.specs.declared.records.Record.{Record}
 
--- the number and the values of each answer; `Pending` tells 'refused 0', which no call comes to
-abbrev pub tells : Answer → Outcome
-tells Pending = refused 0
-tells Opened = opened
-tells (Gave q) = gave q
-tells End = ended
-tells (Counted n) = counted n
-tells (Rolled n buffer) = rolled n (take n buffer)
-tells (Refused r) = refused (refusalNumber r)
+-- the number and the values of each answer; a call that is not yet made tells 'refused 0', which is never due
+abbrev pub outcomeOf : Answer → Outcome
+outcomeOf Pending = refused 0
+outcomeOf Opened = opened
+outcomeOf (Gave q) = gave q
+outcomeOf End = ended
+outcomeOf (Counted n) = counted n
+outcomeOf (Rolled n buffer) = rolled n (take n buffer)
+outcomeOf (Refused r) = refused (refusalNumber r)
 
--- the buffer of a roll held zeros, and its later entries keep them
-abbrev pub Untouched : Answer → Type 0
-Untouched Pending = Unit {0}
-Untouched Opened = Unit {0}
-Untouched (Gave q) = Unit {0}
-Untouched End = Unit {0}
-Untouched (Counted n) = Unit {0}
-Untouched (Rolled n buffer) = drop n buffer ≡ drop n (replicate 8 0)
-Untouched (Refused r) = Unit {0}
+-- later entries keep what they held: the buffer that a roll is lent holds zeros
+abbrev pub RestKept : Answer → Type 0
+RestKept Pending = Unit {0}
+RestKept Opened = Unit {0}
+RestKept (Gave q) = Unit {0}
+RestKept End = Unit {0}
+RestKept (Counted n) = Unit {0}
+RestKept (Rolled n buffer) = drop n buffer ≡ drop n (replicate 8 0)
+RestKept (Refused r) = Unit {0}
 
--- the call of a record, and what its answer tells
+-- the call of a record, and the outcome that its answer tells
 abbrev pub eventOf : Record → Event
-eventOf r = record { call = r .call; outcome = tells (r .answer) }
+eventOf r = record { call = r .call; outcome = outcomeOf (r .answer) }
 
 -- the history that a transcript tells: its calls with their outcomes, the newest first
 unfoldable pub historyOf : List Record → History

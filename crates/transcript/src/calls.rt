@@ -1,7 +1,7 @@
 // Making one call on a session, through the public function of its name.
 ghost use Rattle.session.specs.Keeps.{Follows};
 ghost use Rattle.session.specs.declared.call.Call.the-variants.{On, Roll};
-ghost use Rattle.transcript.specs.Transcripts.{tells, Untouched};
+ghost use Rattle.transcript.specs.Transcripts.{outcomeOf, RestKept};
 ghost use mathlib.Core.Path.{_≡_};
 use crate::records::Answer;
 use crate::records::of_count;
@@ -14,9 +14,9 @@ use session::Session;
 
 // Makes the call, and answers what came of it.
 pub(crate) fn make<S: QuadSource>(session: &mut Session<'_, S>, call: Call) -> Answer
-    ensures law { λ r. ⌜ Follows (means (now (now (session .entry) .source))) (now (session .entry) .table) call (tells r) (now (session .exit) .table) ⌝ }
+    ensures law { λ r. ⌜ Follows (means (now (now (session .entry) .source))) (now (session .entry) .table) call (outcomeOf r) (now (session .exit) .table) ⌝ }
     ensures source { λ _. ⌜ now (now (session .exit) .source) ≡ now (now (session .entry) .source) ⌝ }
-    ensures untouched { λ r. ⌜ Untouched r ⌝ }
+    ensures rest { λ r. ⌜ RestKept r ⌝ }
 {
     match call {
         Call::On(cursor, ask) => make_on(session, cursor, ask),
@@ -26,9 +26,9 @@ pub(crate) fn make<S: QuadSource>(session: &mut Session<'_, S>, call: Call) -> A
 }
 
 fn make_on<S: QuadSource>(session: &mut Session<'_, S>, cursor: u32, ask: Ask) -> Answer
-    ensures law { λ r. ⌜ Follows (means (now (now (session .entry) .source))) (now (session .entry) .table) (On cursor ask) (tells r) (now (session .exit) .table) ⌝ }
+    ensures law { λ r. ⌜ Follows (means (now (now (session .entry) .source))) (now (session .entry) .table) (On cursor ask) (outcomeOf r) (now (session .exit) .table) ⌝ }
     ensures source { λ _. ⌜ now (now (session .exit) .source) ≡ now (now (session .entry) .source) ⌝ }
-    ensures untouched { λ r. ⌜ Untouched r ⌝ }
+    ensures rest { λ r. ⌜ RestKept r ⌝ }
 {
     match ask {
         Ask::Open(pattern) => of_open(session.open(cursor, pattern)),
@@ -41,8 +41,8 @@ fn make_on<S: QuadSource>(session: &mut Session<'_, S>, cursor: u32, ask: Ask) -
 
 // A buffer with room for the eight cursors serves as well as a longer one.
 fn make_roll<S: QuadSource>(session: &Session<'_, S>, room: usize) -> Answer
-    ensures law { λ r. ⌜ Follows (means (now (now (session .entry) .source))) (now (session .entry) .table) (Roll room) (tells r) (now (session .entry) .table) ⌝ }
-    ensures untouched { λ r. ⌜ Untouched r ⌝ }
+    ensures law { λ r. ⌜ Follows (means (now (now (session .entry) .source))) (now (session .entry) .table) (Roll room) (outcomeOf r) (now (session .entry) .table) ⌝ }
+    ensures rest { λ r. ⌜ RestKept r ⌝ }
 {
     let mut buffer = [0u32; 8];
     match session.roll(&mut buffer[0..room.min(8)]) {

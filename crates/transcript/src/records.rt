@@ -1,6 +1,6 @@
 // A call on a session, and what came of it.
 ghost use Rattle.session.specs.Outcomes.{ofOpen, ofNext, ofCount};
-ghost use Rattle.transcript.specs.Transcripts.{tells};
+ghost use Rattle.transcript.specs.Transcripts.{outcomeOf};
 ghost use mathlib.Core.Path.{_≡_};
 use quads::Quad;
 use session::Call;
@@ -9,7 +9,7 @@ use session::Refusal;
 // What a call answered.
 #[derive(Clone, Copy)]
 pub enum Answer {
-    // Not yet asked.
+    // The call is not yet made.
     Pending,
     // The cursor was opened.
     Opened,
@@ -19,7 +19,7 @@ pub enum Answer {
     End,
     // The number that was asked for.
     Counted(u32),
-    // How many cursors are open, and a buffer with their numbers at its front.
+    // How many cursors are open, and the first eight entries of the buffer, which held zeros, with their numbers at its front.
     Rolled(usize, [u32; 8]),
     // The call was turned down.
     Refused(Refusal),
@@ -34,7 +34,7 @@ pub struct Record {
 
 // The answer of open.
 pub(crate) fn of_open(result: Result<(), Refusal>) -> Answer
-    ensures { λ r. ⌜ tells r ≡ ofOpen result ⌝ }
+    ensures { λ r. ⌜ outcomeOf r ≡ ofOpen result ⌝ }
 {
     match result {
         Ok(()) => Answer::Opened,
@@ -44,7 +44,7 @@ pub(crate) fn of_open(result: Result<(), Refusal>) -> Answer
 
 // The answer of next.
 pub(crate) fn of_next(result: Result<Option<Quad>, Refusal>) -> Answer
-    ensures { λ r. ⌜ tells r ≡ ofNext result ⌝ }
+    ensures { λ r. ⌜ outcomeOf r ≡ ofNext result ⌝ }
 {
     match result {
         Ok(Some(quad)) => Answer::Gave(quad),
@@ -55,7 +55,7 @@ pub(crate) fn of_next(result: Result<Option<Quad>, Refusal>) -> Answer
 
 // The answer of seek, left and close.
 pub(crate) fn of_count(result: Result<u32, Refusal>) -> Answer
-    ensures { λ r. ⌜ tells r ≡ ofCount result ⌝ }
+    ensures { λ r. ⌜ outcomeOf r ≡ ofCount result ⌝ }
 {
     match result {
         Ok(count) => Answer::Counted(count),

@@ -1,8 +1,8 @@
 // A session over a source, taken through lists of calls.
-ghost use Rattle.session.specs.Histories.{asksOf, answersOf};
+ghost use Rattle.session.specs.Histories.{on, calls};
 ghost use Rattle.session.specs.Law.{Law};
 ghost use Rattle.std.specs.shelf.Lists.{All};
-ghost use Rattle.transcript.specs.Transcripts.{Untouched, historyOf, callsOf};
+ghost use Rattle.transcript.specs.Transcripts.{RestKept, historyOf, callsOf};
 ghost use Prim.Native.Nat.{ℕ};
 ghost use mathlib.Core.Path.{_≡_};
 use crate::calls::make;
@@ -15,7 +15,7 @@ use session::Session;
 pub fn run<S: QuadSource>(source: &S, records: &mut [Record])
     ensures calls { λ _. ⌜ callsOf (now (records .exit)) ≡ callsOf (now (records .entry)) ⌝ }
     ensures law { λ _. ⌜ Law (means (now (source .entry))) (historyOf (now (records .exit))) ⌝ }
-    ensures untouched { λ _. ⌜ All (λ r. Untouched (r .answer)) (now (records .exit)) ⌝ }
+    ensures rest { λ _. ⌜ All (λ r. RestKept (r .answer)) (now (records .exit)) ⌝ }
 {
     let mut session = Session::attach(source);
     for record in records.iter_mut() {
@@ -30,9 +30,9 @@ pub fn run_twice<S: QuadSource>(source: &S, first: &mut [Record], second: &mut [
     ensures second_calls { λ _. ⌜ callsOf (now (second .exit)) ≡ callsOf (now (second .entry)) ⌝ }
     ensures first_law { λ _. ⌜ Law (means (now (source .entry))) (historyOf (now (first .exit))) ⌝ }
     ensures second_law { λ _. ⌜ Law (means (now (source .entry))) (historyOf (now (second .exit))) ⌝ }
-    ensures first_untouched { λ _. ⌜ All (λ r. Untouched (r .answer)) (now (first .exit)) ⌝ }
-    ensures second_untouched { λ _. ⌜ All (λ r. Untouched (r .answer)) (now (second .exit)) ⌝ }
-    ensures apart { λ _. ⌜ ((k : ℕ) → asksOf k (historyOf (now (first .exit))) ≡ asksOf k (historyOf (now (second .exit))) → answersOf k (historyOf (now (first .exit))) ≡ answersOf k (historyOf (now (second .exit)))) ⌝ }
+    ensures first_rest { λ _. ⌜ All (λ r. RestKept (r .answer)) (now (first .exit)) ⌝ }
+    ensures second_rest { λ _. ⌜ All (λ r. RestKept (r .answer)) (now (second .exit)) ⌝ }
+    ensures apart { λ _. ⌜ ((k : ℕ) → calls (on k (historyOf (now (first .exit)))) ≡ calls (on k (historyOf (now (second .exit)))) → on k (historyOf (now (first .exit))) ≡ on k (historyOf (now (second .exit)))) ⌝ }
 {
     run(source, first);
     run(source, second);

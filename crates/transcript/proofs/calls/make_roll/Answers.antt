@@ -17,20 +17,22 @@ part-size room m e = length-take (m - 0) zeros ∙ omega arith
 pub returns-in-Ok : need.returns-in-Ok
 unfolding zeros
 returns-in-Ok g c =
-    let l = g .S·QuadSource .means (c .args .session .now .source .now) in
+    let q = g .S·QuadSource in
+    let s = c .args .session .now .source .now in
     let t = c .args .session .now .table in
     let told = c .in-Ok .ensures tt in
     let size = part-size (c .args .room) (c .min .result) (c .min .ensures) in
     record {
-      law = roll-ok l t (c .args .room) (c .in-Ok .count) _ (c .roll .last .buffer) _ size (omega arith) (told .answer) (told .law);
-      untouched = roll-rest l t (c .args .room) (c .in-Ok .count) _ (c .roll .last .buffer) _ size (omega arith) zeros (told .answer) (told .wrote .1) (take-append-drop (c .min .result - 0) zeros);
+      law = roll-ok (q .means s) (q .ascending s) (q .ids s) t (c .args .room) (c .in-Ok .count) _ (c .roll .last .buffer) _ size (omega arith) (told .answer) (told .law);
+      rest = roll-rest (q .means s) (q .ascending s) (q .ids s) t (c .args .room) (c .in-Ok .count) _ (c .roll .last .buffer) _ size (omega arith) zeros (told .answer) (told .rest) (take-append-drop (c .min .result - 0) zeros);
     }
 
 pub returns-in-Err : need.returns-in-Err
 unfolding zeros
 returns-in-Err g c =
-    let l = g .S·QuadSource .means (c .args .session .now .source .now) in
+    let q = g .S·QuadSource in
+    let s = c .args .session .now .source .now in
     let t = c .args .session .now .table in
     let told = c .in-Err .ensures tt in
     let size = part-size (c .args .room) (c .min .result) (c .min .ensures) in
-    record { law = roll-err l t (c .args .room) 0 _ (c .roll .last .buffer) (drop 0 zeros) size (omega arith) _ (told .law); untouched = tt }
+    record { law = roll-err (q .means s) (q .ascending s) (q .ids s) t (c .args .room) 0 _ (c .roll .last .buffer) (drop 0 zeros) size (omega arith) _ (told .law); rest = tt }
