@@ -1,6 +1,6 @@
 -- A strictly ascending list by its first entry and the rest, and what filters leave of one. Assumes nothing.
 use mathlib.Core.Bool.{Bool, true, false, cond, not, _&&_}
-use mathlib.Core.List.{List, [], _∷_}
+use mathlib.Core.List.{List, [], _∷_, _++_}
 use mathlib.Core.Path.{_≡_, refl, sym, ap, subst, _∙_}
 use mathlib.Core.Logic.{_⊎_, inl, inr, ⊎-elim}
 use Rattle.std.specs.shelf.Lists.{kept-by}
@@ -31,6 +31,24 @@ each-kept s t (x ∷ xs) e =
     (λ y. subst (λ zs. each s zs ≡ true) (sym (kept-yes t x xs y)) (and-from _ _ (and-parts _ _ e .0) ih))
     (λ n. subst (λ zs. each s zs ≡ true) (sym (kept-no t x xs n)) ih)
     (cases-bool (t x))
+
+-- what is kept passes
+pub kept-passes : {A : Type 0} (test : A → Bool) (xs : List A) → each test (kept-by test xs) ≡ true
+kept-passes test [] = refl
+kept-passes test (x ∷ xs) =
+    ⊎-elim
+    (λ y. subst (λ zs. each test zs ≡ true) (sym (kept-yes test x xs y)) (and-from _ _ y (kept-passes test xs)))
+    (λ n. subst (λ zs. each test zs ≡ true) (sym (kept-no test x xs n)) (kept-passes test xs))
+    (cases-bool (test x))
+
+pub each-append : {A : Type 0} (t : A → Bool) (xs ys : List A) → each t xs ≡ true → each t ys ≡ true → each t (xs ++ ys) ≡ true
+each-append t [] ys h k = k
+each-append t (x ∷ xs) ys h k = and-from _ _ (and-parts _ _ h .0) (each-append t xs ys (and-parts _ _ h .1) k)
+
+pub each-both : {A : Type 0} (s t u : A → Bool) → ((x : A) → s x ≡ true → t x ≡ true → u x ≡ true) → (xs : List A) → each s xs ≡ true → each t xs ≡ true → each u xs ≡ true
+each-both s t u f [] h k = refl
+each-both s t u f (x ∷ xs) h k =
+    and-from _ _ (f x (and-parts _ _ h .0) (and-parts _ _ k .0)) (each-both s t u f xs (and-parts _ _ h .1) (and-parts _ _ k .1))
 
 -- two tests that agree keep the same
 pub kept-same : {A : Type 0} (s t : A → Bool) → ((x : A) → s x ≡ t x) → (xs : List A) → kept-by s xs ≡ kept-by t xs
@@ -90,21 +108,13 @@ module _ {A : Type 0} (below : A → A → Bool) (order : TotalOrder below) wher
   kept-above key q xs rest e h =
       let from : A → Bool = λ x. not (below x key) in
       let kept : sorted (q ∷ rest) ≡ true = subst (λ zs. sorted zs ≡ true) h (sorted-kept from xs e) in
-      let head : from q ≡ true = and-parts _ _ (subst (λ zs. each from zs ≡ true) h (passes from xs)) .0 in
+      let head : from q ≡ true = and-parts _ _ (subst (λ zs. each from zs ≡ true) h (kept-passes from xs)) .0 in
       let later : (x : A) → below q x ≡ true → from x ≡ true =
       λ x b. ⊎-elim (λ t. absurd (both-ways _ (not-true _ head) (order .transitive q x key b t))) (λ f. not-from-false _ f) (cases-bool (below x key)) in
       sym (kept-within (below q) from later xs)
       ∙ ap (kept-by (below q)) h
       ∙ kept-no (below q) q rest (order .irreflexive q)
       ∙ kept-all (below q) rest (and-parts _ _ kept .0)
-    where
-      passes : (t : A → Bool) (ys : List A) → each t (kept-by t ys) ≡ true
-      passes t [] = refl
-      passes t (y ∷ ys) =
-          ⊎-elim
-          (λ p. subst (λ zs. each t zs ≡ true) (sym (kept-yes t y ys p)) (and-from _ _ p (passes t ys)))
-          (λ n. subst (λ zs. each t zs ≡ true) (sym (kept-no t y ys n)) (passes t ys))
-          (cases-bool (t y))
 
   -- nothing of an ascending list is below what its first entry is not below
   pub kept-none-below : (key q : A) (rest : List A) → sorted (q ∷ rest) ≡ true → below q key ≡ false → kept-by (λ x. below x key) (q ∷ rest) ≡ []

@@ -13,8 +13,7 @@ use Rattle.std.proofs.shelf.Lists.{drop-more}
 use Rattle.std.proofs.shelf.Tests.{and-parts, and-from, cases-bool, both-ways, cond-true, cond-false, eqb-true, leb-true, le-ltb, ltb-true, not-from-false}
 use Rattle.ordered.specs.Lists.{each, foremost}
 use Rattle.ordered.specs.Order.{strictlyAscends}
-use Rattle.ordered.proofs.Kept.{kept-yes, kept-no}
-use Rattle.ordered.proofs.Sorted.{sorted, sorted-strictly, strictly-sorted, kept-all, kept-none, each-weaker}
+use Rattle.ordered.proofs.Sorted.{sorted, sorted-strictly, strictly-sorted, kept-all, kept-none, kept-passes, each-weaker, each-both}
 use Rattle.quads.specs.Quads.{isId, hasIds, belowOr, quadBelow}
 use Rattle.quads.specs.QuadOrder.{quad-order, belowOr-cases}
 use Rattle.quads.specs.Patterns.{fits, matches}
@@ -61,17 +60,9 @@ match-not-below p q e =
     (belowOr-not (q .o) (leastAt (p .o)) _ (fits-least (p .o) (q .o) (m .2))
     (le-ltb (q .g) (leastAt (p .g)) (fits-least (p .g) (q .g) (m .3)))))
 
-passes : (t : Quad → Bool) (xs : List Quad) → each t (kept-by t xs) ≡ true
-passes t [] = refl
-passes t (x ∷ xs) =
-    ⊎-elim
-    (λ y. subst (λ zs. each t zs ≡ true) (sym (kept-yes t x xs y)) (and-from _ _ y (passes t xs)))
-    (λ n. subst (λ zs. each t zs ≡ true) (sym (kept-no t x xs n)) (passes t xs))
-    (cases-bool (t x))
-
 matching-matches : (l : Listing) (p : Pattern) → each (matches p) (matching l p) ≡ true
 unfolding matching
-matching-matches l p = passes (matches p) (l .quads)
+matching-matches l p = kept-passes (matches p) (l .quads)
 
 -- all matching quads lie from the lowest mark on, and so from any mark below it
 all-from : (l : Listing) (p : Pattern) (mark : Quad) → ((q : Quad) → matches p q ≡ true → quadBelow q mark ≡ false) → notBelow mark (matching l p) ≡ matching l p
@@ -133,11 +124,7 @@ none-above p x rest b e ids =
     λ y h a. ⊎-elim (λ m. absurd (both-ways _ (match-not-above p y h m) a)) (λ n. not-from-false _ n) (cases-bool (matches p y)) in
     kept-none (matches p) (x ∷ rest)
     (and-from _ _ (unmatched x (and-parts _ _ ids .0) b)
-    (both rest unmatched (and-parts _ _ ids .1) (each-weaker (quadBelow x) (quadBelow (highestOf p)) (λ y a. quad-order .transitive (highestOf p) x y b a) rest (and-parts _ _ e .0))))
-  where
-    both : (ys : List Quad) → ((y : Quad) → hasIds y ≡ true → quadBelow (highestOf p) y ≡ true → not (matches p y) ≡ true) → each hasIds ys ≡ true → each (quadBelow (highestOf p)) ys ≡ true → each (λ y. not (matches p y)) ys ≡ true
-    both [] f h a = refl
-    both (y ∷ ys) f h a = and-from _ _ (f y (and-parts _ _ h .0) (and-parts _ _ a .0)) (both ys f (and-parts _ _ h .1) (and-parts _ _ a .1))
+    (each-both hasIds (quadBelow (highestOf p)) (λ y. not (matches p y)) unmatched rest (and-parts _ _ ids .1) (each-weaker (quadBelow x) (quadBelow (highestOf p)) (λ y a. quad-order .transitive (highestOf p) x y b a) rest (and-parts _ _ e .0))))
 
 pub no-match-later : (p : Pattern) (qs : List Quad) (i : ℕ) (d : Quad) → strictlyAscends quadBelow qs ≡ true → each hasIds qs ≡ true → i < length qs → quadBelow (highestOf p) (getD qs i d) ≡ true
     → foremost (kept-by (matches p) (drop i qs)) ≡ None

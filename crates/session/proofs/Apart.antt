@@ -11,6 +11,7 @@ use Rattle.std.specs.declared.option.Option.{Option}
 use Rattle.std.proofs.shelf.Tests.{and-parts, and-left, and-from, both-ways, cases-bool, cond-false, eqb-true}
 use Rattle.ordered.specs.Lists.{each}
 use Rattle.ordered.proofs.Kept.{kept-yes, kept-no}
+use Rattle.ordered.proofs.Sorted.{kept-passes}
 use Rattle.quads.specs.Listings.{Listing}
 use Rattle.session.specs.Asks.{tried}
 use Rattle.session.specs.Histories.{Event, History, Opening, granted, afterGranted, afterCall, openingOf, names, on, calls}
@@ -55,12 +56,7 @@ on-answered l k (e ∷ h) a =
 
 on-named : (k : ℕ) (h : History) → each (λ e. names k (e .call)) (on k h) ≡ true
 unfolding on
-on-named k [] = refl
-on-named k (e ∷ h) =
-    ⊎-elim
-    (λ t. subst (λ es. each (λ e. names k (e .call)) es ≡ true) (sym (kept-yes (λ e. names k (e .call)) e h t)) (and-from _ _ t (on-named k h)))
-    (λ f. subst (λ es. each (λ e. names k (e .call)) es ≡ true) (sym (kept-no (λ e. names k (e .call)) e h f)) (on-named k h))
-    (cases-bool (names k (e .call)))
+on-named k h = kept-passes (λ e. names k (e .call)) h
 
 -- a call that names a cursor has one outcome that is due
 same-outcome : (l : Listing) (k : ℕ) (h : History) (call : Call) (o p : Outcome) → names k call ≡ true → Due l h call o → Due l h call p → o ≡ p

@@ -14,8 +14,7 @@ use Rattle.std.specs.declared.option.Option.the-variants.{Some, None}
 use Rattle.std.proofs.shelf.Tests.{and-parts, and-from, or-left, or-right, or-from, both-ways, cases-bool, cond-true, cond-false, eqb-true, not-true, not-from-true, not-from-false}
 use Rattle.ordered.specs.Lists.{each, foremost}
 use Rattle.ordered.specs.Order.{chained, strictlyAscends}
-use Rattle.ordered.proofs.Kept.{kept-yes, kept-no}
-use Rattle.ordered.proofs.Sorted.{sorted, sorted-strictly, strictly-sorted, sorted-kept, each-weaker, each-kept}
+use Rattle.ordered.proofs.Sorted.{sorted, strictly-sorted, sorted-kept, each-weaker, each-kept, each-append, each-both, kept-passes}
 use Rattle.quads.specs.Quads.{hasIds, quadBelow, sameQuad}
 use Rattle.quads.specs.QuadOrder.{quad-order}
 use Rattle.quads.specs.Listings.{Listing, matching}
@@ -32,23 +31,6 @@ use Rattle.session.specs.declared.call.Call.{Call}
 use Rattle.session.specs.declared.call.Call.the-variants.{On, Tally, Roll}
 use Rattle.session.proofs.Apart.{cursors-apart}
 use Rattle.session.proofs.Openings.{sameQuad-refl, further, next-given, next-left, seek-left, kept-others}
-
-each-append : {A : Type 0} (t : A → Bool) (xs ys : List A) → each t xs ≡ true → each t ys ≡ true → each t (xs ++ ys) ≡ true
-each-append t [] ys h k = k
-each-append t (x ∷ xs) ys h k = and-from _ _ (and-parts _ _ h .0) (each-append t xs ys (and-parts _ _ h .1) k)
-
-each-both : {A : Type 0} (s t u : A → Bool) → ((x : A) → s x ≡ true → t x ≡ true → u x ≡ true) → (xs : List A) → each s xs ≡ true → each t xs ≡ true → each u xs ≡ true
-each-both s t u f [] h k = refl
-each-both s t u f (x ∷ xs) h k =
-    and-from _ _ (f x (and-parts _ _ h .0) (and-parts _ _ k .0)) (each-both s t u f xs (and-parts _ _ h .1) (and-parts _ _ k .1))
-
-each-passes : {A : Type 0} (t : A → Bool) (xs : List A) → each t (kept-by t xs) ≡ true
-each-passes t [] = refl
-each-passes t (x ∷ xs) =
-    ⊎-elim
-    (λ y. subst (λ zs. each t zs ≡ true) (sym (kept-yes t x xs y)) (and-from _ _ y (each-passes t xs)))
-    (λ n. subst (λ zs. each t zs ≡ true) (sym (kept-no t x xs n)) (each-passes t xs))
-    (cases-bool (t x))
 
 -- every quad of a list stands in it, and so does what a filter keeps
 has-itself : (xs : List Quad) → each (has xs) xs ≡ true
@@ -86,7 +68,7 @@ module _ (l : Listing) (ascending : strictlyAscends quadBelow (l .quads) ≡ tru
   unfolding left
   left-unjumped w =
       each-weaker (λ q. not (has (given (w .steps)) q) && not (jumped (w .steps) q)) (λ q. not (jumped (w .steps) q)) (λ q e. and-parts _ _ e .1) _
-      (each-passes (λ q. not (has (given (w .steps)) q) && not (jumped (w .steps) q)) (matching l (w .pattern)))
+      (kept-passes (λ q. not (has (given (w .steps)) q) && not (jumped (w .steps) q)) (matching l (w .pattern)))
 
   listed-fresh : (p : Pattern) → Listed l (record { pattern = p; steps = [] })
   unfolding given hasEnded
