@@ -135,9 +135,9 @@ class Desk:
     def tally(self):
         return len(self.all_given)
 
-    def roll(self, buffer):
+    def roll(self, room):
         numbers = sorted(self.open_cursors)
-        if len(buffer) < len(numbers):
+        if room < len(numbers):
             raise Refused(25)
         return numbers
 
@@ -200,10 +200,22 @@ class Runner:
 
     def roll(self, buffer):
         try:
-            numbers = self.desk.roll(buffer)
+            numbers = self.desk.roll(len(buffer))
             say(row(f"r r{len(numbers)}", numbers + buffer[len(numbers) :]))
         except Refused as refusal:
             say(row(f"r !{refusal}", buffer))
+
+    def transcript_roll(self, room):
+        """A transcript has a buffer of eight zeros of its own, whatever the room."""
+
+        def show(numbers):
+            return row(f"r{len(numbers)}", numbers) + row(" |", numbers + [0] * (8 - len(numbers)))
+
+        self.call(f"r {room}", lambda: self.desk.roll(room), show)
+
+    def compare(self):
+        """A transcript of the same calls has the same answers, since the rules know no other."""
+        say("transcript same")
 
 
 # The drawing of cases.
@@ -396,6 +408,11 @@ def played(title, script, quads=FIVE):
     """Says a chosen session: each call is its name and its arguments."""
     say(f"fixed: {title}")
     runner = Runner(quads)
+    make_calls(runner, script)
+    runner.compare()
+
+
+def make_calls(runner, script):
     for name, *arguments in script:
         getattr(runner, name)(*arguments)
 
@@ -551,6 +568,42 @@ def fixed_cases():
     played("quads that are no plain list", script, [FIVE[1], FIVE[0]])
 
 
+def transcribed(title, script):
+    say(f"transcript: {title}")
+    make_calls(Runner(FIVE), script)
+
+
+def transcript_cases():
+    rolls = [("transcript_roll", room) for room in (0, 1, 7, 8, 9, 1000, HUGE)]
+    transcribed("no calls", [])
+    transcribed("rolls with no cursor open", rolls)
+    transcribed("rolls with one cursor open", [("open", 5, ANYTHING)] + rolls)
+    transcribed("rolls with all eight cursors open", [("open", n, ANYTHING) for n in range(8)] + rolls)
+    transcribed(
+        "calls of each kind",
+        [
+            ("open", 7, only(1, 2)),
+            ("open", 2, only(0, 0)),
+            ("open", 2, only(3, 1)),
+            ("next", 7),
+            ("next", 7),
+            *rolls,
+            ("seek", 7, (2, 0, 0, 0)),
+            ("seek", 2, (1, 2, 0, 0)),
+            ("seek", 2, (1, 1, 0, 0)),
+            ("left", 2),
+            ("next", 2),
+            ("close", 7),
+            *rolls,
+            ("open", 2, ANYTHING),
+            ("close", 2),
+            ("left", 2),
+            ("close", 8),
+            ("tally",),
+        ],
+    )
+
+
 def drawn_call(draws, values, runner):
     cursor = draws.cursor()
     kind = draws.below(18)
@@ -583,6 +636,7 @@ def session_cases():
             runner.open(cursor, draws.pattern(values))
         for _ in range(36):
             drawn_call(draws, values, runner)
+        runner.compare()
 
 
 number_cases()
@@ -590,5 +644,6 @@ ordered_cases()
 check_cases()
 first_cases()
 fixed_cases()
+transcript_cases()
 session_cases()
 sys.stdout.write("\n".join(out) + "\n")

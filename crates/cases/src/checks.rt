@@ -6,7 +6,6 @@ use crate::numbers::BOUNDS;
 use crate::show::print_found;
 use crate::show::print_quads;
 use quads::Pattern;
-use quads::Place;
 use quads::PlainList;
 use quads::PlainSource;
 use quads::Quad;
@@ -21,35 +20,16 @@ pub const LOWEST: Quad = Quad {
     g: 0,
 };
 
-pub const ANYTHING: Pattern = Pattern {
-    s: Place::Any,
-    p: Place::Any,
-    o: Place::Any,
-    g: Place::Any,
-};
-
-const ONES: Quad = Quad {
-    s: 1,
-    p: 1,
-    o: 1,
-    g: 1,
-};
-
-const TWOS: Quad = Quad {
-    s: 2,
-    p: 2,
-    o: 2,
-    g: 2,
-};
-
 pub fn run(rt: &LibcRuntime) -> io::Result<()> {
+    let ones = Quad::new(1, 1, 1, 1);
+    let twos = Quad::new(2, 2, 2, 2);
     line(rt, &[])?;
-    line(rt, &[ONES, TWOS])?;
-    line(rt, &[TWOS, ONES])?;
-    line(rt, &[ONES, ONES])?;
-    line(rt, &[TWOS, LOWEST])?;
-    line(rt, &[TWOS, ONES, LOWEST])?;
-    line(rt, &[ONES, TWOS, ONES, LOWEST])?;
+    line(rt, &[ones, twos])?;
+    line(rt, &[twos, ones])?;
+    line(rt, &[ones, ones])?;
+    line(rt, &[twos, LOWEST])?;
+    line(rt, &[twos, ones, LOWEST])?;
+    line(rt, &[ones, twos, ones, LOWEST])?;
     for place in 0..4u32 {
         for number in BOUNDS {
             bounds_lines(rt, place, number)?;
@@ -66,11 +46,13 @@ pub fn run(rt: &LibcRuntime) -> io::Result<()> {
 
 // The number at one place of an only quad, of the last quad and of a middle one.
 fn bounds_lines(rt: &LibcRuntime, place: u32, number: u32) -> io::Result<()> {
-    let changed = with(TWOS, place, number);
+    let ones = Quad::new(1, 1, 1, 1);
+    let twos = Quad::new(2, 2, 2, 2);
+    let changed = with(twos, place, number);
     line(rt, &[changed])?;
-    line(rt, &[ONES, changed])?;
-    line(rt, &[TWOS, changed])?;
-    line(rt, &[ONES, changed, TWOS])
+    line(rt, &[ones, changed])?;
+    line(rt, &[twos, changed])?;
+    line(rt, &[ones, changed, twos])
 }
 
 // The verdict, and the first quad of the plain list that is made of the quads.
@@ -86,7 +68,7 @@ fn line(rt: &LibcRuntime, quads: &[Quad]) -> io::Result<()> {
         }
     }
     let list = PlainList::new(quads);
-    print_found(rt, list.first(ANYTHING, LOWEST))?;
+    print_found(rt, list.first(Pattern::ANY, LOWEST))?;
     print_found(rt, list.first(only(0, 2), LOWEST))?;
     println!(rt, "")
 }

@@ -81,7 +81,7 @@ impl Draws {
         let p = self.mark_number(values);
         let o = self.mark_number(values);
         let g = self.mark_number(values);
-        Quad { s, p, o, g }
+        Quad::new(s, p, o, g)
     }
 
     // A given place: mostly one of the values, now and then another ID, or a number that is none.
@@ -180,12 +180,12 @@ impl Draws {
 
 // The quad of this rank among the 81 quads of the values.
 fn quad_at(values: Values, rank: usize) -> Quad {
-    Quad {
-        s: values[rank / 27 % 3],
-        p: values[rank / 9 % 3],
-        o: values[rank / 3 % 3],
-        g: values[rank % 3],
-    }
+    Quad::new(
+        values[rank / 27 % 3],
+        values[rank / 9 % 3],
+        values[rank / 3 % 3],
+        values[rank % 3],
+    )
 }
 
 // The quad with another number at the place: 0 for s, 1 for p, 2 for o, 3 for g.
@@ -200,12 +200,7 @@ pub fn with(quad: Quad, place: u32, number: u32) -> Quad {
 
 // The pattern that gives a number at one place and leaves the others open.
 pub fn only(place: u32, number: u32) -> Pattern {
-    let open = Pattern {
-        s: Place::Any,
-        p: Place::Any,
-        o: Place::Any,
-        g: Place::Any,
-    };
+    let open = Pattern::ANY;
     let given = Place::Given(number);
     match place {
         0 => Pattern { s: given, ..open },

@@ -17,13 +17,6 @@ use quads::Quad;
 use quads::QuadSource;
 use std::io;
 
-const HIGHEST: Mark = Quad {
-    s: u32::MAX,
-    p: u32::MAX,
-    o: u32::MAX,
-    g: u32::MAX,
-};
-
 pub fn run(rt: &LibcRuntime) -> io::Result<()> {
     let mut draws = Draws::new(303);
     for _ in 0..24 {
@@ -39,12 +32,13 @@ fn one_list(rt: &LibcRuntime, draws: &mut Draws, values: Values, quads: &[Quad])
     print_quads(rt, quads)?;
     println!(rt, "")?;
     let list = PlainList::new(quads);
+    let highest = Quad::new(u32::MAX, u32::MAX, u32::MAX, u32::MAX);
     for shape in 0..16u32 {
         let pattern = drawn_pattern(draws, values, shape);
         let shown = Shape(pattern);
         print!(rt, "first {shown}:")?;
         print_first(rt, &list, pattern, LOWEST)?;
-        print_first(rt, &list, pattern, HIGHEST)?;
+        print_first(rt, &list, pattern, highest)?;
         for _ in 0..4 {
             print_first(rt, &list, pattern, draws.mark(values))?;
         }

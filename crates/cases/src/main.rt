@@ -1,4 +1,5 @@
 // Many cases of the public calls, with a line for each answer. What must come out is written by tools/cases.py.
+mod answers;
 mod checks;
 mod draws;
 mod firsts;
@@ -8,6 +9,7 @@ mod ordered_lists;
 mod runner;
 mod sessions;
 mod show;
+mod transcripts;
 
 use std::io;
 
@@ -17,5 +19,6 @@ fn main(rt: LibcRuntime) -> io::Result<()> {
     checks::run(&rt)?;
     firsts::run(&rt)?;
     fixed::run(&rt)?;
+    transcripts::run(&rt)?;
     sessions::run(&rt)
 }

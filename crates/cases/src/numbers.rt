@@ -12,13 +12,6 @@ pub const BOUNDS: [u32; 7] = [0, 1, 2, 1_048_575, 1_048_576, 1_048_577, 4_294_96
 
 const COUNTS: [u32; 4] = [0, 1, 4_294_967_294, 4_294_967_295];
 
-const PLAIN: Quad = Quad {
-    s: 1,
-    p: 2,
-    o: 3,
-    g: 4,
-};
-
 pub fn run(rt: &LibcRuntime) -> io::Result<()> {
     for number in BOUNDS {
         id_line(rt, number)?;
@@ -61,12 +54,13 @@ fn admits_line(rt: &LibcRuntime, place: Place) -> io::Result<()> {
 // At one place: whether a quad has IDs with the number there, whether the pattern that gives it gives only IDs, and which
 // quads that pattern matches.
 fn place_line(rt: &LibcRuntime, place: u32, number: u32) -> io::Result<()> {
+    let plain = Quad::new(1, 2, 3, 4);
     let pattern = only(place, number);
     print!(rt, "at {place} {number}:")?;
-    print_test(rt, with(PLAIN, place, number).has_ids())?;
+    print_test(rt, with(plain, place, number).has_ids())?;
     print_test(rt, pattern.gives_only_ids())?;
     for other in BOUNDS {
-        print_test(rt, pattern.matches(with(PLAIN, place, other)))?;
+        print_test(rt, pattern.matches(with(plain, place, other)))?;
     }
     println!(rt, "")
 }

@@ -1,80 +1,83 @@
-// Making the calls of a session, and printing what each is and what it answers: ok, = with a quad, end, # with a count,
-// ! with a refusal's number, and r with a number of cursors. A roll's buffer is printed after the call.
+// Making the calls of a session, and printing what each is and what it answers. A roll's buffer is printed after the call.
+use crate::answers::counted;
+use crate::answers::given;
+use crate::answers::opened;
+use crate::answers::rolled;
 use crate::checks::LOWEST;
-use crate::show::Dots;
-use crate::show::DotsDisplay;
-use crate::show::Shape;
-use crate::show::ShapeDisplay;
+use crate::show::Asked;
+use crate::show::AskedDisplay;
+use crate::show::Told;
+use crate::show::ToldDisplay;
 use crate::show::print_numbers;
+use crate::transcripts::print_comparison;
 use quads::Mark;
 use quads::Pattern;
 use quads::PlainList;
 use quads::PlainSource;
-use quads::Quad;
-use session::Refusal;
+use session::Ask;
+use session::Call;
 use session::Session;
+use std::alloc::Global;
 use std::io;
+use transcript::Answer;
+use transcript::Record;
 
 #[derive(Drop)]
-pub struct Runner<'a> {
-    session: Session<PlainList<'a>>,
+pub struct Runner<'a, 'q> {
+    list: &'a PlainList<'q>,
+    session: Session<'a, PlainList<'q>>,
+    // The calls so far, with what the session answered.
+    records: Vec<Record>,
     // The last quad that was given to any cursor.
     pub last: Mark,
 }
 
-impl<'a> Runner<'a> {
-    pub fn new(quads: &'a [Quad]) -> Runner<'a> {
+impl<'a, 'q> Runner<'a, 'q> {
+    pub fn new(heap: Global, list: &'a PlainList<'q>) -> Runner<'a, 'q> {
         Runner {
-            session: Session::attach(PlainList::new(quads)),
+            list,
+            session: Session::attach(list),
+            records: Vec::new(heap),
             last: LOWEST,
         }
     }
 
     pub fn open(&mut self, rt: &LibcRuntime, cursor: u32, pattern: Pattern) -> io::Result<()> {
-        let shape = Shape(pattern);
-        print!(rt, "o{cursor} {shape} ")?;
-        match self.session.open(cursor, pattern) {
-            Ok(()) => println!(rt, "ok"),
-            Err(refusal) => refused_line(rt, refusal),
-        }
+        let answer = opened(self.session.open(cursor, pattern));
+        self.note(rt, Call::On(cursor, Ask::Open(pattern)), answer)
     }
 
     pub fn next(&mut self, rt: &LibcRuntime, cursor: u32) -> io::Result<()> {
-        print!(rt, "n{cursor} ")?;
-        match self.session.next(cursor) {
-            Ok(Some(quad)) => {
-                self.last = quad;
-                let dots = Dots(quad);
-                println!(rt, "= {dots}")
-            }
-            Ok(None) => println!(rt, "end"),
-            Err(refusal) => refused_line(rt, refusal),
+        let answer = given(self.session.next(cursor));
+        if let Answer::Gave(quad) = answer {
+            self.last = quad;
         }
+        self.note(rt, Call::On(cursor, Ask::Next), answer)
     }
 
     pub fn seek(&mut self, rt: &LibcRuntime, cursor: u32, mark: Mark) -> io::Result<()> {
-        let dots = Dots(mark);
-        print!(rt, "s{cursor} {dots} ")?;
-        count_line(rt, self.session.seek(cursor, mark))
+        let answer = counted(self.session.seek(cursor, mark));
+        self.note(rt, Call::On(cursor, Ask::Seek(mark)), answer)
     }
 
-    pub fn left(&self, rt: &LibcRuntime, cursor: u32) -> io::Result<()> {
-        print!(rt, "l{cursor} ")?;
-        count_line(rt, self.session.left(cursor))
+    pub fn left(&mut self, rt: &LibcRuntime, cursor: u32) -> io::Result<()> {
+        let answer = counted(self.session.left(cursor));
+        self.note(rt, Call::On(cursor, Ask::Left), answer)
     }
 
     pub fn close(&mut self, rt: &LibcRuntime, cursor: u32) -> io::Result<()> {
-        print!(rt, "c{cursor} ")?;
-        count_line(rt, self.session.close(cursor))
+        let answer = counted(self.session.close(cursor));
+        self.note(rt, Call::On(cursor, Ask::Close), answer)
     }
 
-    pub fn tally(&self, rt: &LibcRuntime) -> io::Result<()> {
-        let tally = self.session.tally();
-        println!(rt, "t #{tally}")
+    pub fn tally(&mut self, rt: &LibcRuntime) -> io::Result<()> {
+        let answer = Answer::Counted(self.session.tally());
+        self.note(rt, Call::Tally, answer)
     }
 
-    pub fn roll(&self, rt: &LibcRuntime, buffer: &mut [u32]) -> io::Result<()> {
-        match self.session.roll(buffer) {
+    pub fn roll(&mut self, rt: &LibcRuntime, buffer: &mut [u32]) -> io::Result<()> {
+        let result = self.session.roll(buffer);
+        match result {
             Ok(count) => print!(rt, "r r{count}")?,
             Err(refusal) => {
                 let number = refusal.number();
@@ -82,18 +85,24 @@ impl<'a> Runner<'a> {
             }
         }
         print_numbers(rt, buffer)?;
-        println!(rt, "")
+        println!(rt, "")?;
+        let call = Call::Roll(buffer.len());
+        let answer = rolled(result, buffer);
+        self.records.push(Record { call, answer })?;
+        Ok(())
     }
-}
 
-fn count_line(rt: &LibcRuntime, answer: Result<u32, Refusal>) -> io::Result<()> {
-    match answer {
-        Ok(count) => println!(rt, "#{count}"),
-        Err(refusal) => refused_line(rt, refusal),
+    // Says whether a transcript of the same calls has the same answers.
+    pub fn compare(&self, rt: &LibcRuntime) -> io::Result<()> {
+        print_comparison(rt, self.list, self.records.as_slice())
     }
-}
 
-fn refused_line(rt: &LibcRuntime, refusal: Refusal) -> io::Result<()> {
-    let number = refusal.number();
-    println!(rt, "!{number}")
+    // Prints a call with its answer, and writes both down.
+    fn note(&mut self, rt: &LibcRuntime, call: Call, answer: Answer) -> io::Result<()> {
+        let asked = Asked(call);
+        let told = Told(answer);
+        println!(rt, "{asked} {told}")?;
+        self.records.push(Record { call, answer })?;
+        Ok(())
+    }
 }

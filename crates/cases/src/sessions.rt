@@ -4,6 +4,7 @@ use crate::draws::Values;
 use crate::runner::Runner;
 use crate::show::print_quads;
 use quads::Mark;
+use quads::PlainList;
 use quads::Quad;
 use std::io;
 
@@ -15,15 +16,26 @@ pub fn run(rt: &LibcRuntime) -> io::Result<()> {
         print!(rt, "session {number}:")?;
         print_quads(rt, quads.as_slice())?;
         println!(rt, "")?;
-        let mut runner = Runner::new(quads.as_slice());
-        for cursor in 0..3u32 {
-            runner.open(rt, cursor, draws.pattern(values))?;
-        }
-        for _ in 0..36 {
-            step(rt, &mut draws, values, &mut runner)?;
-        }
+        let list = PlainList::new(quads.as_slice());
+        one_session(rt, &mut draws, values, &list)?;
     }
     Ok(())
+}
+
+fn one_session(
+    rt: &LibcRuntime,
+    draws: &mut Draws,
+    values: Values,
+    list: &PlainList<'_>,
+) -> io::Result<()> {
+    let mut runner = Runner::new(rt.alloc(), list);
+    for cursor in 0..3u32 {
+        runner.open(rt, cursor, draws.pattern(values))?;
+    }
+    for _ in 0..36 {
+        step(rt, draws, values, &mut runner)?;
+    }
+    runner.compare(rt)
 }
 
 // One drawn call.
@@ -31,7 +43,7 @@ fn step(
     rt: &LibcRuntime,
     draws: &mut Draws,
     values: Values,
-    runner: &mut Runner<'_>,
+    runner: &mut Runner<'_, '_>,
 ) -> io::Result<()> {
     let cursor = draws.cursor();
     match draws.below(18) {
@@ -60,7 +72,7 @@ fn sought(draws: &mut Draws, values: Values, last: Mark) -> Mark {
     }
 }
 
-fn roll(rt: &LibcRuntime, draws: &mut Draws, runner: &Runner<'_>) -> io::Result<()> {
+fn roll(rt: &LibcRuntime, draws: &mut Draws, runner: &mut Runner<'_, '_>) -> io::Result<()> {
     let mut buffer = [99u32; 10];
     let size = draws.place(6).min(10);
     runner.roll(rt, &mut buffer[0..size])

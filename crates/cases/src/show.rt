@@ -1,9 +1,12 @@
-// How quads, patterns and answers are written.
+// How quads, patterns, calls and answers are written.
 use quads::Pattern;
 use quads::Place;
 use quads::Quad;
+use session::Ask;
+use session::Call;
 use std::fmt;
 use std::io;
+use transcript::Answer;
 
 // A quad or a mark, as 1.2.3.4.
 #[derive(Drop)]
@@ -41,6 +44,77 @@ pub impl fmt::Display for Shape as ShapeDisplay {
         let g = Spot(self.0.g);
         write!(f, "{s}.{p}.{o}.{g}")
     }
+}
+
+// A call: o, n, s, l or c with the cursor's number, t, or r with the room.
+#[derive(Drop)]
+pub struct Asked(pub Call);
+
+pub impl fmt::Display for Asked as AskedDisplay {
+    fn fmt<W: fmt::Write>(&self, f: &mut fmt::Formatter<W>) -> fmt::Result {
+        match self.0 {
+            Call::On(cursor, ask) => write_ask(f, cursor, ask),
+            Call::Tally => write!(f, "t"),
+            Call::Roll(room) => write!(f, "r {room}"),
+        }
+    }
+}
+
+fn write_ask<W: fmt::Write>(f: &mut fmt::Formatter<W>, cursor: u32, ask: Ask) -> fmt::Result {
+    match ask {
+        Ask::Open(pattern) => {
+            let shape = Shape(pattern);
+            write!(f, "o{cursor} {shape}")
+        }
+        Ask::Next => write!(f, "n{cursor}"),
+        Ask::Seek(mark) => {
+            let dots = Dots(mark);
+            write!(f, "s{cursor} {dots}")
+        }
+        Ask::Left => write!(f, "l{cursor}"),
+        Ask::Close => write!(f, "c{cursor}"),
+    }
+}
+
+// An answer: ok, = with a quad, end, # with a count, ! with a refusal's number, or r with how many cursors are open, their
+// numbers, and after | the whole buffer.
+#[derive(Drop)]
+pub struct Told(pub Answer);
+
+pub impl fmt::Display for Told as ToldDisplay {
+    fn fmt<W: fmt::Write>(&self, f: &mut fmt::Formatter<W>) -> fmt::Result {
+        match self.0 {
+            Answer::Pending => write!(f, "pending"),
+            Answer::Opened => write!(f, "ok"),
+            Answer::Gave(quad) => {
+                let dots = Dots(quad);
+                write!(f, "= {dots}")
+            }
+            Answer::End => write!(f, "end"),
+            Answer::Counted(count) => write!(f, "#{count}"),
+            Answer::Rolled(count, buffer) => write_roll(f, count, buffer),
+            Answer::Refused(refusal) => {
+                let number = refusal.number();
+                write!(f, "!{number}")
+            }
+        }
+    }
+}
+
+fn write_roll<W: fmt::Write>(
+    f: &mut fmt::Formatter<W>,
+    count: usize,
+    buffer: [u32; 8],
+) -> fmt::Result {
+    write!(f, "r{count}")?;
+    for number in buffer.iter().take(count) {
+        write!(f, " {number}")?;
+    }
+    write!(f, " |")?;
+    for number in buffer {
+        write!(f, " {number}")?;
+    }
+    Ok(())
 }
 
 pub fn print_quads(rt: &LibcRuntime, quads: &[Quad]) -> io::Result<()> {

@@ -1,11 +1,10 @@
-// The desk, where a reader hands in questions on eight slips, numbered 0 to 7. A slip is one of the session's cursors. Each
-// request is put to the session, and what it answers is printed.
+// The desk, where a reader puts questions on the eight cursors of a session, numbered 0 to 7. Each request is put to the
+// session, and what it answers is printed.
 use crate::words::Question;
 use crate::words::QuestionDisplay;
 use crate::words::Statement;
 use crate::words::StatementDisplay;
 use crate::words::reason;
-use quads::Mark;
 use quads::Pattern;
 use quads::PlainList;
 use quads::PlainSource;
@@ -15,15 +14,15 @@ use session::Session;
 use std::io;
 
 #[derive(Drop)]
-pub struct Desk<'a> {
-    session: Session<PlainList<'a>>,
+pub struct Desk<'a, 'q> {
+    session: Session<'a, PlainList<'q>>,
     // How many questions were taken, and how many requests were turned down.
     questions: u32,
     refused: u32,
 }
 
-impl<'a> Desk<'a> {
-    pub fn new(list: PlainList<'a>) -> Desk<'a> {
+impl<'a, 'q> Desk<'a, 'q> {
+    pub fn new(list: &'a PlainList<'q>) -> Desk<'a, 'q> {
         Desk {
             session: Session::attach(list),
             questions: 0,
@@ -31,11 +30,11 @@ impl<'a> Desk<'a> {
         }
     }
 
-    // Puts a question on a slip.
-    pub fn ask(&mut self, rt: &LibcRuntime, slip: u32, pattern: Pattern) -> io::Result<()> {
+    // Puts a question on a cursor.
+    pub fn ask(&mut self, rt: &LibcRuntime, cursor: u32, pattern: Pattern) -> io::Result<()> {
         let question = Question(pattern);
-        println!(rt, "Slip {slip} asks: {question}")?;
-        match self.session.open(slip, pattern) {
+        println!(rt, "Cursor {cursor} asks: {question}")?;
+        match self.session.open(cursor, pattern) {
             Ok(()) => {
                 self.questions = self.questions.saturating_add(1);
                 Ok(())
@@ -44,16 +43,16 @@ impl<'a> Desk<'a> {
         }
     }
 
-    // Lists the next statement of a slip, and answers whether there was one.
-    pub fn list_one(&mut self, rt: &LibcRuntime, slip: u32) -> io::Result<bool> {
-        match self.session.next(slip) {
+    // Lists the next statement of a cursor, and answers whether there was one.
+    pub fn list_one(&mut self, rt: &LibcRuntime, cursor: u32) -> io::Result<bool> {
+        match self.session.next(cursor) {
             Ok(Some(quad)) => {
                 let statement = Statement(quad);
-                println!(rt, "  {slip}: {statement}")?;
+                println!(rt, "  {cursor}: {statement}")?;
                 Ok(true)
             }
             Ok(None) => {
-                println!(rt, "  {slip}: that is all.")?;
+                println!(rt, "  {cursor}: that is all.")?;
                 Ok(false)
             }
             Err(refusal) => {
@@ -63,10 +62,10 @@ impl<'a> Desk<'a> {
         }
     }
 
-    // Lists the next statements of a slip, at most so many.
-    pub fn list(&mut self, rt: &LibcRuntime, slip: u32, most: u32) -> io::Result<()> {
+    // Lists the next statements of a cursor, at most so many.
+    pub fn list(&mut self, rt: &LibcRuntime, cursor: u32, most: u32) -> io::Result<()> {
         for _ in 0..most {
-            if !self.list_one(rt, slip)? {
+            if !self.list_one(rt, cursor)? {
                 break;
             }
         }
@@ -77,45 +76,39 @@ impl<'a> Desk<'a> {
     pub fn skip_to(
         &mut self,
         rt: &LibcRuntime,
-        slip: u32,
+        cursor: u32,
         work: u32,
         name: &str,
     ) -> io::Result<()> {
-        println!(rt, "Slip {slip}, go on from {name}.")?;
-        let mark: Mark = Quad {
-            s: work,
-            p: 0,
-            o: 0,
-            g: 0,
-        };
-        match self.session.seek(slip, mark) {
+        println!(rt, "Cursor {cursor}, go on from {name}.")?;
+        match self.session.seek(cursor, Quad::new(work, 0, 0, 0)) {
             Ok(jumped) => println!(rt, "  Passed over: {jumped}."),
             Err(refusal) => self.turn_down(rt, refusal),
         }
     }
 
-    // Says how many statements a slip has yet to list.
-    pub fn say_left(&mut self, rt: &LibcRuntime, slip: u32) -> io::Result<()> {
-        match self.session.left(slip) {
-            Ok(left) => println!(rt, "  Left on slip {slip}: {left}."),
+    // Says how many statements a cursor has yet to list.
+    pub fn say_left(&mut self, rt: &LibcRuntime, cursor: u32) -> io::Result<()> {
+        match self.session.left(cursor) {
+            Ok(left) => println!(rt, "  Left on cursor {cursor}: {left}."),
             Err(refusal) => self.turn_down(rt, refusal),
         }
     }
 
-    // Takes the question off a slip.
-    pub fn hand_back(&mut self, rt: &LibcRuntime, slip: u32) -> io::Result<()> {
-        match self.session.close(slip) {
-            Ok(given) => println!(rt, "Slip {slip} is handed back. Listed on it: {given}."),
+    // Closes a cursor.
+    pub fn close(&mut self, rt: &LibcRuntime, cursor: u32) -> io::Result<()> {
+        match self.session.close(cursor) {
+            Ok(given) => println!(rt, "Cursor {cursor} is closed. Listed on it: {given}."),
             Err(refusal) => self.turn_down(rt, refusal),
         }
     }
 
-    // Says which slips are in use, given room to write down so many.
-    pub fn say_in_use(&mut self, rt: &LibcRuntime, room: &mut [u32]) -> io::Result<()> {
+    // Says which cursors are open, given room to write down so many.
+    pub fn say_open(&mut self, rt: &LibcRuntime, room: &mut [u32]) -> io::Result<()> {
         let size = room.len();
         println!(
             rt,
-            "Which slips are in use? There is room to write down {size}."
+            "Which cursors are open? There is room to write down {size}."
         )?;
         match self.session.roll(room) {
             Ok(count) => print_front(rt, room, count),
@@ -123,14 +116,14 @@ impl<'a> Desk<'a> {
         }
     }
 
-    // Says what was done in all.
+    // Says what was done at the desk in all.
     pub fn sum_up(&self, rt: &LibcRuntime) -> io::Result<()> {
         let questions = self.questions;
         let listed = self.session.tally();
         let refused = self.refused;
         println!(
             rt,
-            "In all: {questions} questions taken, {listed} statements listed, {refused} requests turned down."
+            "In sections 1 to 6: {questions} questions taken, {listed} statements listed, {refused} requests turned down."
         )
     }
 
@@ -145,9 +138,9 @@ impl<'a> Desk<'a> {
 // Prints the first so many of the numbers.
 fn print_front(rt: &LibcRuntime, numbers: &[u32], count: usize) -> io::Result<()> {
     if count == 0 {
-        return println!(rt, "  None is in use.");
+        return println!(rt, "  None is open.");
     }
-    print!(rt, "  In use: slip")?;
+    print!(rt, "  Open:")?;
     for number in numbers.iter().take(count) {
         print!(rt, " {number}")?;
     }

@@ -1,17 +1,18 @@
-// A tour of a small library's catalogues: questions that a reader may put, and what the store answers.
+// A tour of a small library's catalogue: questions that a reader may put, and what the store answers.
 mod catalogue;
 mod desk;
 mod names;
+mod transcripts;
 mod words;
 
 use catalogue::statements;
 use desk::Desk;
 use names::AUTHOR;
+use names::EDITION_1861;
+use names::EDITION_1872;
 use names::HEADING;
 use names::MIDDLEMARCH;
 use names::MOBY_DICK;
-use names::OF_1861;
-use names::OF_1872;
 use names::SEA_STORIES;
 use names::WALDEN;
 use quads::Pattern;
@@ -21,15 +22,7 @@ use quads::Quad;
 use quads::check_plain;
 use std::io;
 
-// The question that fixes nothing.
-const ANYTHING: Pattern = Pattern {
-    s: Place::Any,
-    p: Place::Any,
-    o: Place::Any,
-    g: Place::Any,
-};
-
-// More than any slip has to list.
+// More than any cursor has to list.
 const ALL: u32 = 100;
 
 // Says whether the list can be used as it stands.
@@ -37,7 +30,7 @@ fn look_over(rt: &LibcRuntime, quads: &[Quad]) -> io::Result<()> {
     let count = quads.len();
     println!(
         rt,
-        "A small library has {count} statements about its books, from its catalogues of 1861, 1872 and 1881."
+        "A small library has {count} statements about its books, from the 1861, 1872 and 1881 editions of its catalogue."
     )?;
     match check_plain(quads) {
         Ok(()) => println!(
@@ -59,18 +52,18 @@ fn look_over(rt: &LibcRuntime, quads: &[Quad]) -> io::Result<()> {
 fn say_how(rt: &LibcRuntime) -> io::Result<()> {
     println!(
         rt,
-        "Questions are put on eight slips, numbered 0 to 7, and several can be in use at once."
+        "Questions are put on eight cursors, numbered 0 to 7, and several can be open at once."
     )?;
     println!(
         rt,
-        "A statement is listed after the number of its slip: work | property | value | catalogue."
+        "A statement is listed after the number of its cursor: work | property | value | edition."
     )
 }
 
 // Leafs through everything, and goes on from a later work.
-fn leaf_through(rt: &LibcRuntime, desk: &mut Desk<'_>) -> io::Result<()> {
+fn leaf_through(rt: &LibcRuntime, desk: &mut Desk<'_, '_>) -> io::Result<()> {
     println!(rt, "\n1. Leafing through everything.")?;
-    desk.ask(rt, 0, ANYTHING)?;
+    desk.ask(rt, 0, Pattern::ANY)?;
     desk.say_left(rt, 0)?;
     desk.list(rt, 0, 4)?;
     desk.say_left(rt, 0)?;
@@ -79,54 +72,57 @@ fn leaf_through(rt: &LibcRuntime, desk: &mut Desk<'_>) -> io::Result<()> {
     desk.say_left(rt, 0)?;
     desk.skip_to(rt, 0, WALDEN, "Walden")?;
     desk.list(rt, 0, 1)?;
-    desk.hand_back(rt, 0)
+    desk.close(rt, 0)
 }
 
 // All that is said of one work.
-fn one_work(rt: &LibcRuntime, desk: &mut Desk<'_>) -> io::Result<()> {
-    println!(rt, "\n2. What do the catalogues say of Walden?")?;
+fn one_work(rt: &LibcRuntime, desk: &mut Desk<'_, '_>) -> io::Result<()> {
+    println!(
+        rt,
+        "\n2. What does the catalogue say of Walden, in any edition?"
+    )?;
     desk.ask(
         rt,
         0,
         Pattern {
             s: Place::Given(WALDEN),
-            ..ANYTHING
+            ..Pattern::ANY
         },
     )?;
     desk.list(rt, 0, ALL)?;
     desk.say_left(rt, 0)?;
     desk.skip_to(rt, 0, MIDDLEMARCH, "Middlemarch")?;
-    desk.hand_back(rt, 0)
+    desk.close(rt, 0)
 }
 
 // Two listings that go on side by side.
-fn two_at_once(rt: &LibcRuntime, desk: &mut Desk<'_>) -> io::Result<()> {
+fn two_at_once(rt: &LibcRuntime, desk: &mut Desk<'_, '_>) -> io::Result<()> {
     println!(
         rt,
         "\n3. Two questions at once: who wrote what, and which works are sea stories?"
     )?;
     let authors = Pattern {
         p: Place::Given(AUTHOR),
-        ..ANYTHING
+        ..Pattern::ANY
     };
     let sea_stories = Pattern {
         p: Place::Given(HEADING),
         o: Place::Given(SEA_STORIES),
-        ..ANYTHING
+        ..Pattern::ANY
     };
     desk.ask(rt, 1, authors)?;
     desk.ask(rt, 2, sea_stories)?;
     take_turns(rt, desk, 1, 2)?;
-    desk.say_in_use(rt, &mut [0; 8])?;
-    desk.say_in_use(rt, &mut [0; 1])?;
+    desk.say_open(rt, &mut [0; 8])?;
+    desk.say_open(rt, &mut [0; 1])?;
     desk.ask(rt, 1, sea_stories)?;
     desk.list(rt, 1, ALL)?;
-    desk.hand_back(rt, 1)?;
-    desk.hand_back(rt, 2)
+    desk.close(rt, 1)?;
+    desk.close(rt, 2)
 }
 
-// Lists a statement of one slip, then one of the other, until the second has no more.
-fn take_turns(rt: &LibcRuntime, desk: &mut Desk<'_>, one: u32, other: u32) -> io::Result<()> {
+// Lists a statement of one cursor, then one of the other, until the second has no more.
+fn take_turns(rt: &LibcRuntime, desk: &mut Desk<'_, '_>, one: u32, other: u32) -> io::Result<()> {
     for _ in 0..ALL {
         desk.list_one(rt, one)?;
         if !desk.list_one(rt, other)? {
@@ -136,26 +132,26 @@ fn take_turns(rt: &LibcRuntime, desk: &mut Desk<'_>, one: u32, other: u32) -> io
     Ok(())
 }
 
-// All that one catalogue says.
-fn one_catalogue(rt: &LibcRuntime, desk: &mut Desk<'_>) -> io::Result<()> {
-    println!(rt, "\n4. What stood in the catalogue of 1861?")?;
+// All that one edition says.
+fn one_edition(rt: &LibcRuntime, desk: &mut Desk<'_, '_>) -> io::Result<()> {
+    println!(rt, "\n4. What stood in the 1861 edition?")?;
     desk.ask(
         rt,
         7,
         Pattern {
-            g: Place::Given(OF_1861),
-            ..ANYTHING
+            g: Place::Given(EDITION_1861),
+            ..Pattern::ANY
         },
     )?;
     desk.list(rt, 7, ALL)?;
-    desk.hand_back(rt, 7)
+    desk.close(rt, 7)
 }
 
-// What one catalogue says of one property of one work.
-fn one_property(rt: &LibcRuntime, desk: &mut Desk<'_>) -> io::Result<()> {
+// What one edition says of one property of one work.
+fn one_property(rt: &LibcRuntime, desk: &mut Desk<'_, '_>) -> io::Result<()> {
     println!(
         rt,
-        "\n5. Under which headings did the catalogue of 1872 have Moby-Dick?"
+        "\n5. Under which headings did the 1872 edition have Moby-Dick?"
     )?;
     desk.ask(
         rt,
@@ -164,41 +160,43 @@ fn one_property(rt: &LibcRuntime, desk: &mut Desk<'_>) -> io::Result<()> {
             s: Place::Given(MOBY_DICK),
             p: Place::Given(HEADING),
             o: Place::Any,
-            g: Place::Given(OF_1872),
+            g: Place::Given(EDITION_1872),
         },
     )?;
     desk.list(rt, 0, ALL)?;
-    desk.hand_back(rt, 0)
+    desk.close(rt, 0)
 }
 
 // Requests that no desk can meet.
-fn beyond_the_desk(rt: &LibcRuntime, desk: &mut Desk<'_>) -> io::Result<()> {
+fn beyond_the_desk(rt: &LibcRuntime, desk: &mut Desk<'_, '_>) -> io::Result<()> {
     println!(rt, "\n6. Requests that cannot be met.")?;
-    desk.ask(rt, 8, ANYTHING)?;
+    desk.ask(rt, 8, Pattern::ANY)?;
     desk.ask(
         rt,
         0,
         Pattern {
             s: Place::Given(0),
-            ..ANYTHING
+            ..Pattern::ANY
         },
     )?;
-    println!(rt, "Slip 3 is asked for its next statement.")?;
+    println!(rt, "Cursor 3 is asked for its next statement.")?;
     desk.list(rt, 3, 1)?;
-    desk.say_in_use(rt, &mut [0; 8])
+    desk.say_open(rt, &mut [0; 8])
 }
 
 fn main(rt: LibcRuntime) -> io::Result<()> {
     let quads = statements(rt.alloc())?;
     look_over(&rt, quads.as_slice())?;
     say_how(&rt)?;
-    let mut desk = Desk::new(PlainList::new(quads.as_slice()));
+    let list = PlainList::new(quads.as_slice());
+    let mut desk = Desk::new(&list);
     leaf_through(&rt, &mut desk)?;
     one_work(&rt, &mut desk)?;
     two_at_once(&rt, &mut desk)?;
-    one_catalogue(&rt, &mut desk)?;
+    one_edition(&rt, &mut desk)?;
     one_property(&rt, &mut desk)?;
     beyond_the_desk(&rt, &mut desk)?;
+    transcripts::show(&rt, &list)?;
     println!(rt, "")?;
     desk.sum_up(&rt)
 }

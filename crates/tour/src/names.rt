@@ -1,4 +1,4 @@
-// The numbers that stand for works, properties, values and catalogues, and their names.
+// The numbers that stand for works, properties, values and editions of the catalogue, and their names.
 
 pub const MOBY_DICK: u32 = 101;
 
@@ -54,11 +54,11 @@ pub const ROBERTS: u32 = 264;
 
 pub const HETZEL: u32 = 265;
 
-pub const OF_1861: u32 = 301;
+pub const EDITION_1861: u32 = 301;
 
-pub const OF_1872: u32 = 302;
+pub const EDITION_1872: u32 = 302;
 
-pub const OF_1881: u32 = 303;
+pub const EDITION_1881: u32 = 303;
 
 // A number and what it stands for.
 pub struct Name(u32, &'static str);
@@ -99,10 +99,10 @@ pub const VALUES: [Name; 18] = [
     Name(HETZEL, "Hetzel"),
 ];
 
-pub const CATALOGUES: [Name; 3] = [
-    Name(OF_1861, "catalogue of 1861"),
-    Name(OF_1872, "catalogue of 1872"),
-    Name(OF_1881, "catalogue of 1881"),
+pub const EDITIONS: [Name; 3] = [
+    Name(EDITION_1861, "1861 edition"),
+    Name(EDITION_1872, "1872 edition"),
+    Name(EDITION_1881, "1881 edition"),
 ];
 
 // The name of the number, by the table.
