@@ -1,0 +1,4 @@
+pub mod Blocks
+pub mod Following
+pub mod Halving
+pub mod Ones

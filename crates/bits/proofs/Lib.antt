@@ -1,0 +1,2 @@
+pub mod FirstPlace
+pub mod Words

@@ -1,0 +1,2 @@
+pub mod BareMeaning
+pub mod Words
