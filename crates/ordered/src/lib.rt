@@ -1,4 +1,6 @@
 // Ordered entries in lent memory, of any kind that has a total order.
+#![tactic(auto)]
+
 mod list;
 mod order;
 

@@ -20,7 +20,7 @@ impl<'a, T: Ordered> OrderedList<'a, T> {
     // within the slice or its length.
     pub fn first_not_below(&self, key: &T) -> usize
         ensures within { result ≤ length self.now.entries.now }
-        ensures place { ascends below self.now.entries.now ≡ true → result ≡ first_not_below below key.now self.now.entries.now }
+        ensures place { ascends T.below self.now.entries.now ≡ true → result ≡ first_not_below T.below key.now self.now.entries.now }
     {
         let mut low = 0;
         let mut high = self.entries.len();
