@@ -1,4 +1,6 @@
 // Bitmaps that count: rank, select and following.
+#![tactic(auto)]
+
 mod bitmap;
 mod fault;
 mod nth;

@@ -1,4 +1,6 @@
 // Bits in lent words.
+#![tactic(auto)]
+
 mod bare;
 mod bare_row;
 mod row;

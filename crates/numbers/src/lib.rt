@@ -1,4 +1,6 @@
 // Numbers in lent words.
+#![tactic(auto)]
+
 mod fault;
 mod packed;
 mod packed_read;

@@ -1,7 +1,7 @@
 -- What a filter keeps of an ascending list. Assumes nothing.
-use Rattle.std.proofs.Common.{◌≡◌, ℕ, zero, suc, Bool, true, false, cond, not, ◌&&◌, ◌⊎◌, List, [], ◌∷◌, drop, filter, sym, refl, ap, ◌∙◌, subst, inl, inr, ⊎_elim}
+use Rattle.std.proofs.Common.{◌≡◌, suc, Bool, true, false, not, List, [], ◌∷◌, drop, filter, sym, refl, ap, ◌∙◌, ⊎_elim}
 use Rattle.std.proofs.lemmas.Bool.{and_parts, and_from, cases_Bool, cond-true, cond-false, not-true, not_from_true, not_from_false, both_ways}
-use Rattle.ordered.specs.Order.{TotalOrder, chained, ascends, strictly_ascends, first_not_below}
+use Rattle.ordered.specs.Order.{TotalOrder, ascends, strictly_ascends, first_not_below}
 use Rattle.ordered.proofs.Places.{not_above_below, ascends_tail}
 
 pub kept_yes : {A : Type 0} (test : A → Bool) (x : A) (xs : List A) → test x ≡ true → filter test (x ∷ xs) ≡ x ∷ filter test xs

@@ -1,7 +1,7 @@
 -- Where the first entry not below a key stands, by the test at one place. Assumes nothing.
-use Rattle.std.proofs.Common.{◌≡◌, ℕ, zero, suc, ◌+◌, ◌<◌, ◌≤◌, Bool, true, false, cond, not, ◌&&◌, ◌⊎◌, List, [], ◌∷◌, length, get_or, sym, refl, ap, ◌∙◌, subst, inl, inr, ⊎_elim, arith}
+use Rattle.std.proofs.Common.{◌≡◌, ℕ, zero, suc, ◌<◌, ◌≤◌, Bool, true, false, List, [], ◌∷◌, length, get_or, sym, refl, subst, ⊎_elim, arith}
 use Rattle.std.proofs.lemmas.Bool.{and_parts, cases_Bool, cond-true, cond-false, not-true}
-use Rattle.ordered.specs.Order.{TotalOrder, chained, ascends, first_not_below}
+use Rattle.ordered.specs.Order.{TotalOrder, ascends, first_not_below}
 
 module _ {A : Type 0} (below : A → A → Bool) where
   -- an entry not below the key stands at or after the place

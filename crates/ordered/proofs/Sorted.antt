@@ -1,10 +1,9 @@
 -- A strictly ascending list by its first entry and the rest, and what filters leave of one. Assumes nothing.
-use Rattle.std.proofs.Common.{◌≡◌, Bool, true, false, cond, not, ◌&&◌, ◌⊎◌, List, [], ◌∷◌, ◌++◌, filter, sym, refl, ap, ◌∙◌, subst, inl, inr, ⊎_elim}
-use Rattle.std.proofs.lemmas.Bool.{and_parts, and_from, cases_Bool, cond-true, cond-false, not-true, not_from_true, not_from_false, both_ways}
+use Rattle.std.proofs.Common.{◌≡◌, Bool, true, false, not, ◌&&◌, List, [], ◌∷◌, ◌++◌, filter, sym, refl, ap, ◌∙◌, subst, ⊎_elim}
+use Rattle.std.proofs.lemmas.Bool.{and_parts, and_from, cases_Bool, not-true, not_from_false, both_ways}
 use Rattle.ordered.specs.Lists.{each}
-use Rattle.ordered.specs.Order.{TotalOrder, chained, strictly_ascends}
-use Rattle.ordered.proofs.Kept.{kept_yes, kept_no, not_both}
-use Rattle.ordered.proofs.Places.{not_above_below}
+use Rattle.ordered.specs.Order.{TotalOrder, strictly_ascends}
+use Rattle.ordered.proofs.Kept.{kept_yes, kept_no}
 
 -- every entry passes, or none does
 pub kept_all : {A : Type 0} (test : A → Bool) (xs : List A) → each test xs ≡ true → filter test xs ≡ xs

@@ -1,4 +1,6 @@
 // Quads, patterns over them, and the sources that a session asks.
+#![tactic(auto)]
+
 mod check;
 mod count;
 mod pattern;

@@ -1,4 +1,6 @@
 // Rows of which the kind is known only at run time.
+#![tactic(auto)]
+
 mod any_bits;
 mod any_numbers;
 mod kinds;

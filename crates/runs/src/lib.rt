@@ -1,4 +1,6 @@
 // Bits told by their runs of ones.
+#![tactic(auto)]
+
 mod run;
 mod run_bitmap;
 mod run_read;

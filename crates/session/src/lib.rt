@@ -1,4 +1,6 @@
 // Sessions: eight cursors over any quad source.
+#![tactic(auto)]
+
 mod answer;
 mod call;
 mod count;

@@ -1,4 +1,6 @@
 // Transcripts: a session taken through a list of calls, each written down with its answer.
+#![tactic(auto)]
+
 mod calls;
 mod records;
 mod runs;

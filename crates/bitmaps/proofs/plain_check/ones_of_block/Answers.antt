@@ -6,14 +6,14 @@ use Rattle.bitmaps.specs.Counts.{ones_of}
 use Rattle.bitmaps.proofs.Ones.{ones_bound, ones_word, ones_past}
 use Rattle.bitmaps.proofs.plain_check.ones_of_block.Goals as goal
 
-pub overflow-cast-ones : goal.overflow-cast-ones
-overflow-cast-ones c =
+pub overflow_cast-ones : goal.overflow_cast-ones
+overflow_cast-ones c =
     let w = get_or c.args.words.now c.loop-word.word 0 in
     let fits : w < 2 ^ 64 = omega arith in
     omega (arith, ones-le 64 w fits)
 
-pub overflow-add-ones : goal.overflow-add-ones
-overflow-add-ones c =
+pub overflow_add-ones : goal.overflow_add-ones
+overflow_add-ones c =
     let ws = c.args.words.now in
     let w = get_or ws c.loop-word.word 0 in
     let fits : w < 2 ^ 64 = omega arith in

@@ -19,18 +19,18 @@ returns-then-directory-block c =
     sym (each_fails (λ b. eqb (get_or dir b 0) (ones_of (bits_in ws (512 * b)))) 0 (length dir) block (omega arith) (omega arith)
     (ne_eqb (get_or dir block 0) (ones_of (bits_in ws (512 * block))) (λ s. omega (arith, c.loop-block.invariant.0))))
 
-pub overflow-add-ones : goal.overflow-add-ones
-overflow-add-ones c =
+pub overflow_add-ones : goal.overflow_add-ones
+overflow_add-ones c =
     let ws = c.args.words.now in
     let block = c.loop-block.block in
-    omega (arith, c.loop-block.invariant.0, c.ones-of-block-ones.ensures, ones_bound ws (512 * (block + 1)))
+    omega (arith, c.loop-block.invariant.0, c.ones_of_block-ones.ensures, ones_bound ws (512 * (block + 1)))
 
 pub loop-block-preserved : goal.loop-block-preserved
 loop-block-preserved c =
     let ws = c.args.words.now in
     let dir = c.args.directory.now in
     let block = c.loop-block.block in (
-      omega (arith, c.loop-block.invariant.0, c.ones-of-block-ones.ensures),
+      omega (arith, c.loop-block.invariant.0, c.ones_of_block-ones.ensures),
       λ b l.
           ⊎_elim
           (λ before. c.loop-block.invariant.1 b before)

@@ -26,14 +26,14 @@ returns-then-words-end c =
 below_told : (ws : List ℕ) (b : Bool) → b ≡ each_below 32 (take (1 + get_or ws 0 0 - 1) (drop 1 ws)) → each_below 32 (numbers_after ws) ≡ b
 below_told ws b e = sym (e ∙ ap (each_below 32) (numbers_cut ws (get_or ws 0 0)))
 
-pub returns-then-not-are-below : goal.returns-then-not-are-below
-returns-then-not-are-below c =
+pub returns-then-not-are_below : goal.returns-then-not-are_below
+returns-then-not-are_below c =
     let ws = c.args.words.now in
-    let read : Err WrongContent ≡ plain_numbers_read ws = wrong_content ws (omega arith) (omega arith) c.if-words-end.false (below_told ws false c.if-not-are-below.ensures) in
+    let read : Err WrongContent ≡ plain_numbers_read ws = wrong_content ws (omega arith) (omega arith) c.if-words-end.false (below_told ws false c.if-not-are_below.ensures) in
     record { answer = read; row = row_law ws (Err WrongContent) read; found = found-law ws (Err WrongContent) read }
 
 pub returns : goal.returns
 returns c =
     let ws = c.args.words.now in
-    let read : Ok (plain_number_room (get_or ws 0 0)) ≡ plain_numbers_read ws = row_read ws (omega arith) (omega arith) c.if-words-end.false (below_told ws true c.if-not-are-below.ensures) in
+    let read : Ok (plain_number_room (get_or ws 0 0)) ≡ plain_numbers_read ws = row_read ws (omega arith) (omega arith) c.if-words-end.false (below_told ws true c.if-not-are_below.ensures) in
     record { answer = read; row = row_law ws (Ok (plain_number_room (get_or ws 0 0))) read; found = found-law ws (Ok (plain_number_room (get_or ws 0 0))) read }

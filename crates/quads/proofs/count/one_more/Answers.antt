@@ -3,4 +3,4 @@ use Rattle.quads.proofs.count.one_more.Goals as goal
 
 pub returns : goal.returns
 unfolding capped
-returns c = c.saturating-add.ensures
+returns c = c.saturating_add.ensures

@@ -13,10 +13,10 @@ returns-then-matches c =
     sym (match_here (matches c.args.pattern) c.args.quads.now c.loop-quad.quad-index _ c.loop-quad-test.true (sym c.if-matches.ensures))
     ∙ c.loop-quad.invariant
 
-pub returns-then-is-below : goal.returns-then-is-below
-returns-then-is-below c =
+pub returns-then-is_below : goal.returns-then-is_below
+returns-then-is_below c =
     sym (no_match_later c.args.pattern c.args.quads.now c.loop-quad.quad-index nowhere c.requires.ascending c.requires.ids c.loop-quad-test.true
-    (ap (λ m. quad_below m (get_or c.args.quads.now c.loop-quad.quad-index nowhere)) (sym c.highest-highest.ensures) ∙ sym c.if-is-below.ensures))
+    (ap (λ m. quad_below m (get_or c.args.quads.now c.loop-quad.quad-index nowhere)) (sym c.highest-highest.ensures) ∙ sym c.if-is_below.ensures))
     ∙ c.loop-quad.invariant
 
 pub loop-quad-preserved : goal.loop-quad-preserved

@@ -33,14 +33,14 @@ returns-then-words-end c =
 lawful_told : (ws : List ℕ) (b : Bool) → b ≡ runs_fit 0 (get_or ws 0 0) (take (2 + get_or ws 1 0 - 2) (drop 2 ws)) → runs_fit 0 (get_or ws 0 0) (runs_in ws) ≡ b
 lawful_told ws b e = sym (e ∙ ap (runs_fit 0 (get_or ws 0 0)) (runs_cut ws (get_or ws 1 0)))
 
-pub returns-then-not-are-lawful : goal.returns-then-not-are-lawful
-returns-then-not-are-lawful c =
+pub returns-then-not-are_lawful : goal.returns-then-not-are_lawful
+returns-then-not-are_lawful c =
     let ws = c.args.words.now in
-    let read : Err WrongContent ≡ run_read ws = wrong_content ws (omega arith) (omega arith) (omega arith) (omega arith) (lawful_told ws false c.if-not-are-lawful.ensures) in
+    let read : Err WrongContent ≡ run_read ws = wrong_content ws (omega arith) (omega arith) (omega arith) (omega arith) (lawful_told ws false c.if-not-are_lawful.ensures) in
     record { answer = read; row = row_law ws (Err WrongContent) read; found = found-law ws (Err WrongContent) read }
 
 pub returns : goal.returns
 returns c =
     let ws = c.args.words.now in
-    let read : Ok (2 + get_or ws 1 0) ≡ run_read ws = row_read ws (omega arith) (omega arith) (omega arith) (omega arith) (lawful_told ws true c.if-not-are-lawful.ensures) in
+    let read : Ok (2 + get_or ws 1 0) ≡ run_read ws = row_read ws (omega arith) (omega arith) (omega arith) (omega arith) (lawful_told ws true c.if-not-are_lawful.ensures) in
     record { answer = read; row = row_law ws (Ok (2 + get_or ws 1 0)) read; found = found-law ws (Ok (2 + get_or ws 1 0)) read }

@@ -7,12 +7,12 @@ use Rattle.session.proofs.count.count_between.Goals as goal
 pub loop-quad-init : goal.loop-quad-init
 loop-quad-init g c = (omega arith, omega arith)
 
-pub returns-then-not-is-below : goal.returns-then-not-is-below
-returns-then-not-is-below g c =
+pub returns-then-not-is_below : goal.returns-then-not-is_below
+returns-then-not-is_below g c =
     let s = c.args.source.now in
     let src = g.S.QuadSource in
     count_past (src.means s) (src.ascending s) (src.ids s) c.args.pattern c.loop-quad.mark c.args.to c.loop-quad.count _
-    c.loop-quad.invariant.1 c.in-Some.quad c.loop-quad.invariant.0 (sym c.in-Some.ensures) (sym c.if-not-is-below.ensures)
+    c.loop-quad.invariant.1 c.in-Some.quad c.loop-quad.invariant.0 (sym c.in-Some.ensures) (sym c.if-not-is_below.ensures)
 
 pub returns-then-count : goal.returns-then-count
 returns-then-count g c =
@@ -21,11 +21,11 @@ returns-then-count g c =
     count_full (src.means s) (src.ascending s) (src.ids s) c.args.pattern c.loop-quad.mark c.args.to c.loop-quad.count _
     c.loop-quad.invariant.1 c.if-count.true
 
-pub overflow-add-count : goal.overflow-add-count
-overflow-add-count g c = omega arith
+pub overflow_add-count : goal.overflow_add-count
+overflow_add-count g c = omega arith
 
-pub right-after-mark-requires : goal.right-after-mark-requires
-right-after-mark-requires g c =
+pub right_after-mark-requires : goal.right_after-mark-requires
+right_after-mark-requires g c =
     let s = c.args.source.now in
     let src = g.S.QuadSource in
     first_graph (src.means s) (src.ascending s) (src.ids s) c.args.pattern c.loop-quad.mark c.in-Some.quad (sym c.in-Some.ensures)
@@ -35,7 +35,7 @@ loop-quad-smaller g c =
     let s = c.args.source.now in
     let src = g.S.QuadSource in
     subst (λ m. length (not_below m (matching (src.means s) c.args.pattern)) < length (not_below c.loop-quad.mark (matching (src.means s) c.args.pattern)))
-    (sym c.right-after-mark.ensures)
+    (sym c.right_after-mark.ensures)
     (first_less (src.means s) (src.ascending s) (src.ids s) c.args.pattern c.loop-quad.mark c.in-Some.quad (sym c.in-Some.ensures))
 
 pub loop-quad-preserved : goal.loop-quad-preserved
@@ -44,9 +44,9 @@ loop-quad-preserved g c =
     let src = g.S.QuadSource in (
       omega arith,
       subst (λ m. c.loop-quad.count + 1 + length (between m c.args.to (matching (src.means s) c.args.pattern)) ≡ length (between c.args.from c.args.to (matching (src.means s) c.args.pattern)))
-          (sym c.right-after-mark.ensures)
+          (sym c.right_after-mark.ensures)
           (count_more (src.means s) (src.ascending s) (src.ids s) c.args.pattern c.loop-quad.mark c.args.to c.loop-quad.count _
-          c.loop-quad.invariant.1 c.in-Some.quad (sym c.in-Some.ensures) (sym c.if-not-is-below.ensures)),
+          c.loop-quad.invariant.1 c.in-Some.quad (sym c.in-Some.ensures) (sym c.if-not-is_below.ensures)),
     )
 
 pub returns : goal.returns

@@ -7,5 +7,5 @@ pub returns : goal.returns
 returns g c =
     let s = c.args.source.now in
     let src = g.S.QuadSource in
-    c.count-between.ensures
+    c.count_between.ensures
     ∙ ap (λ qs. capped (length qs)) (between_top (src.means s) (src.ascending s) (src.ids s) c.args.pattern c.args.from _ (omega arith))

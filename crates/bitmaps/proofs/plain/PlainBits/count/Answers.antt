@@ -6,14 +6,14 @@ use Rattle.bits.specs.Words.{bits_in}
 use Rattle.bitmaps.proofs.Ones.{ones_bound, ones_word, ones_masked}
 use Rattle.bitmaps.proofs.plain.PlainBits.count.Goals as goal
 
-pub overflow-cast-count : goal.overflow-cast-count
-overflow-cast-count c =
+pub overflow_cast-count : goal.overflow_cast-count
+overflow_cast-count c =
     let w = get_or c.args.self.now.words.now c.loop-word.word 0 in
     let fits : w < 2 ^ 64 = omega arith in
     omega (arith, ones-le 64 w fits)
 
-pub overflow-add-count : goal.overflow-add-count
-overflow-add-count c =
+pub overflow_add-count : goal.overflow_add-count
+overflow_add-count c =
     let ws = c.args.self.now.words.now in
     let w = get_or ws c.loop-word.word 0 in
     let fits : w < 2 ^ 64 = omega arith in
@@ -26,8 +26,8 @@ loop-word-preserved c =
     let fits : w < 2 ^ 64 = omega arith in
     (ap (λ n. n + ones w) c.loop-word.invariant.0 ∙ ones_word ws c.loop-word.word fits, omega arith)
 
-pub overflow-add-count-then-end-gt0 : goal.overflow-add-count-then-end-gt0
-overflow-add-count-then-end-gt0 c =
+pub overflow_add-count-then-end-gt0 : goal.overflow_add-count-then-end-gt0
+overflow_add-count-then-end-gt0 c =
     let ws = c.args.self.now.words.now in
     let n = c.args.end in
     let block : 8 * ((n - 1) / 512) ≤ n / 64 = omega arith in

@@ -23,7 +23,7 @@ returns-in-Some c =
     let w = get_or p.words.now (c.args.place / 64) 0 in
     let fits : w < 2 ^ 64 = omega arith in
     let zero : w / 2 ^ (c.args.place % 64) ≡ 0 = c.if-rest-ne0.false in
-    following_block p.words.now p.len p.spare c.args.place (w / 2 ^ (c.args.place % 64)) refl fits zero (omega arith) c.block-end.result c.block-end.ensures c.in-Some.found (sym c.in-Some.ensures)
+    following_block p.words.now p.len p.spare c.args.place (w / 2 ^ (c.args.place % 64)) refl fits zero (omega arith) c.block_end.result c.block_end.ensures c.in-Some.found (sym c.in-Some.ensures)
 
 pub returns-in-None : goal.returns-in-None
 returns-in-None c =
@@ -31,5 +31,5 @@ returns-in-None c =
     let w = get_or p.words.now (c.args.place / 64) 0 in
     let fits : w < 2 ^ 64 = omega arith in
     let zero : w / 2 ^ (c.args.place % 64) ≡ 0 = c.if-rest-ne0.false in
-    c.first-from.ensures
-    ∙ following_later p.words.now p.len p.spare c.args.place (w / 2 ^ (c.args.place % 64)) refl fits zero (omega arith) c.block-end.result c.block-end.ensures (sym c.in-None.ensures)
+    c.first_from.ensures
+    ∙ following_later p.words.now p.len p.spare c.args.place (w / 2 ^ (c.args.place % 64)) refl fits zero (omega arith) c.block_end.result c.block_end.ensures (sym c.in-None.ensures)

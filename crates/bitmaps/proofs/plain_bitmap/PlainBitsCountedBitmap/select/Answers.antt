@@ -18,7 +18,7 @@ returns-then-nth-eq0 c =
     ])
 
 -- the directory has a block, and the search in it found the place after the one that is looked for
-found : (c : goal.After-first-not-below-next) → (0 < c.args.nth) × (0 < length c.args.self.now.directory.now) × (c.first-not-below-next.result ≡ first_not_below ltb c.args.nth c.args.self.now.directory.now) × (c.args.nth ≤ ones_of (bits_in c.args.self.now.words.now c.args.self.now.len))
+found : (c : goal.After-first_not_below-next) → (0 < c.args.nth) × (0 < length c.args.self.now.directory.now) × (c.first_not_below-next.result ≡ first_not_below ltb c.args.nth c.args.self.now.directory.now) × (c.args.nth ≤ ones_of (bits_in c.args.self.now.words.now c.args.self.now.len))
 found c =
     let p = c.args.self.now in
     let ws = p.words.now in
@@ -27,25 +27,25 @@ found c =
     let all : c.args.nth ≤ ones_of (bits_in ws p.len) = omega (arith, c.total.ensures) in (
       some,
       omega (arith, all, ones_bound ws p.len, p.begun),
-      c.first-not-below-next.ensures.place (ap (ascends ltb) c.new.ensures ∙ dir_ascends ws dir p.len p.spare p.begun p.counts)
+      c.first_not_below-next.ensures.place (ap (ascends ltb) c.new.ensures ∙ dir_ascends ws dir p.len p.spare p.begun p.counts)
           ∙ ap (first_not_below ltb c.args.nth) c.new.ensures,
       all,
     )
 
-pub overflow-sub-next : goal.overflow-sub-next
-overflow-sub-next c =
+pub overflow_sub-next : goal.overflow_sub-next
+overflow_sub-next c =
     let p = c.args.self.now in
     let f = found c in
-    select_past p.words.now p.directory.now p.len p.spare p.begun p.counts c.args.nth c.first-not-below-next.result f.0 f.1 f.2
+    select_past p.words.now p.directory.now p.len p.spare p.begun p.counts c.args.nth c.first_not_below-next.result f.0 f.1 f.2
 
-pub select-in-requires : goal.select-in-requires
-select-in-requires c =
+pub select_in-requires : goal.select_in-requires
+select_in-requires c =
     let p = c.args.self.now in
     let ws = p.words.now in
     let dir = p.directory.now in
-    let next = c.first-not-below-next.result in
+    let next = c.first_not_below-next.result in
     let f = found c in
-    let past : 0 < next = overflow-sub-next c in
+    let past : 0 < next = overflow_sub-next c in
     let within : next ≤ length dir = select_within ws dir p.len p.spare p.begun p.counts c.args.nth next f.0 f.1 f.2 in
     record {
       begun = omega arith;

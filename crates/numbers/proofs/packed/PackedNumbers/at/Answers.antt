@@ -50,8 +50,8 @@ bounds-self-word-2 c =
     let p = c.args.self.now in
     omega (arith, inside p.width c.args.place p.len (64 * length p.words.now) c.requires p.within)
 
-pub overflow-cast-result-2 : goal.overflow-cast-result-2
-overflow-cast-result-2 c =
+pub overflow_cast-result-2 : goal.overflow_cast-result-2
+overflow_cast-result-2 c =
     let p = c.args.self.now in
     let ws = p.words.now in
     let w = p.width in

@@ -6,14 +6,14 @@ use Rattle.numbers.proofs.PackedReading.{RowRead, content_cut, content_long, rea
 use Rattle.numbers.proofs.PackedRowLaws.{reads_law}
 use Rattle.numbers.proofs.packed.PackedNumbers.new.Goals as goal
 
-pub slice-bounds-result-count-2 : goal.slice-bounds-result-count-2
-slice-bounds-result-count-2 c = omega (arith, (read_facts c.args.words.now c.in-Ok.end c.in-Ok.ensures.answer).end)
+pub slice_bounds-result-count-2 : goal.slice_bounds-result-count-2
+slice_bounds-result-count-2 c = omega (arith, (read_facts c.args.words.now c.in-Ok.end c.in-Ok.ensures.answer).end)
 
-pub slice-bounds-result-start-2 : goal.slice-bounds-result-start-2
-slice-bounds-result-start-2 c = omega (arith, (read_facts c.args.words.now c.in-Ok.end c.in-Ok.ensures.answer).end)
+pub slice_bounds-result-start-2 : goal.slice_bounds-result-start-2
+slice_bounds-result-start-2 c = omega (arith, (read_facts c.args.words.now c.in-Ok.end c.in-Ok.ensures.answer).end)
 
-pub slice-bounds-result-end-2 : goal.slice-bounds-result-end-2
-slice-bounds-result-end-2 c =
+pub slice_bounds-result-end-2 : goal.slice_bounds-result-end-2
+slice_bounds-result-end-2 c =
     let f = read_facts c.args.words.now c.in-Ok.end c.in-Ok.ensures.answer in
     omega (arith, f.room, f.end)
 
@@ -27,13 +27,13 @@ bounds-words-0 c = omega (arith, (read_facts c.args.words.now c.in-Ok.end c.in-O
 row_is : (ws : List ℕ) (n : ℕ) → Ok n ≡ packed_read ws → take (n - 2) (drop 2 ws) ≡ content_words ws
 row_is ws n read = ap (λ k. take (k - 2) (drop 2 ws)) (read_facts ws n read).end ∙ content_cut ws (words_for (width_in ws * count_of ws))
 
-pub invariant-of-result-2 : goal.invariant-of-result-2
-invariant-of-result-2 c =
+pub invariant_of-result-2 : goal.invariant_of-result-2
+invariant_of-result-2 c =
     let ws = c.args.words.now in
     let n = c.in-Ok.end in
     let f = read_facts ws n c.in-Ok.ensures.answer in
     let is = row_is ws n c.in-Ok.ensures.answer in
-    (f.wide, (f.narrow, (f.few, (omega (arith, ap length is, content_long ws f.room), tt))))
+    record { wide = f.wide; narrow = f.narrow; small = f.few; within = omega (arith, ap length is, content_long ws f.room) }
 
 pub returns : goal.returns
 returns c =

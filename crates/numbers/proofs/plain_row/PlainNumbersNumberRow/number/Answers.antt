@@ -7,8 +7,8 @@ use Rattle.numbers.proofs.plain_row.PlainNumbersNumberRow.number.Goals as goal
 pub returns-then-place-self : goal.returns-then-place-self
 returns-then-place-self c = sym (slice_get_past c.args.self.now.words.now c.args.place (omega arith))
 
-pub overflow-cast-result : goal.overflow-cast-result
-overflow-cast-result c =
+pub overflow_cast-result : goal.overflow_cast-result
+overflow_cast-result c =
     let p = c.args.self.now in
     let place = c.args.place in
     let below : get_or p.words.now place 0 < 2 ^ 32 = ltb-true (get_or p.words.now place 0) (2 ^ 32) (each_place (λ n. ltb n (2 ^ 32)) p.words.now place 0 p.below (omega arith)) in

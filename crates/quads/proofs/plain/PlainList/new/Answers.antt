@@ -16,16 +16,16 @@ listed_no : (qs : List Quad) → is_plain qs ≡ false → listing [] ≡ listed
 unfolding listed listing
 listed_no qs e = ap listing (sym (cond-false (is_plain qs) qs [] e))
 
-pub returns-then-is-err : goal.returns-then-is-err
+pub returns-then-is_err : goal.returns-then-is_err
 unfolding listing
-returns-then-is-err c = listed_no c.args.quads.now (sym c.check-plain.ensures.test ∙ c.if-is-err.ensures.negation)
+returns-then-is_err c = listed_no c.args.quads.now (sym c.check_plain.ensures.test ∙ c.if-is_err.ensures.negation)
 
-pub invariant-of-result-2 : goal.invariant-of-result-2
+pub invariant_of-result-2 : goal.invariant_of-result-2
 unfolding is_plain
-invariant-of-result-2 c =
-    let plain : is_plain c.args.quads.now ≡ true = sym c.check-plain.ensures.test ∙ c.if-is-err.ensures.negation in
-    ((and_parts _ _ plain).1, ((and_parts _ _ plain).0, tt))
+invariant_of-result-2 c =
+    let plain : is_plain c.args.quads.now ≡ true = sym c.check_plain.ensures.test ∙ c.if-is_err.ensures.negation in
+    record { ascending = (and_parts _ _ plain).1; ids = (and_parts _ _ plain).0 }
 
 pub returns : goal.returns
 unfolding listing
-returns c = listed_yes c.args.quads.now (sym c.check-plain.ensures.test ∙ c.if-is-err.ensures.negation)
+returns c = listed_yes c.args.quads.now (sym c.check_plain.ensures.test ∙ c.if-is_err.ensures.negation)

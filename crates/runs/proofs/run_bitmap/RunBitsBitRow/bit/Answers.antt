@@ -11,4 +11,4 @@ returns-then-place-self c =
 pub returns : goal.returns
 returns c =
     let p = c.args.self.now in
-    ap Some c.ends-after.ensures ∙ sym (nth-told (in_runs p.runs.now) p.len c.args.place (omega arith))
+    ap Some c.ends_after.ensures ∙ sym (nth-told (in_runs p.runs.now) p.len c.args.place (omega arith))

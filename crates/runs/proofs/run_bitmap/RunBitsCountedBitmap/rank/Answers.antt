@@ -6,16 +6,16 @@ use Rattle.runs.proofs.RunPlaces.{covers_past, ones-between, ones_within, sizes_
 use Rattle.runs.proofs.Tested.{rank_told}
 use Rattle.runs.proofs.run_bitmap.RunBitsCountedBitmap.rank.Goals as goal
 
-pub overflow-add-result : goal.overflow-add-result
-overflow-add-result c =
+pub overflow_add-result : goal.overflow_add-result
+overflow_add-result c =
     let p = c.args.self.now in
     let ws = p.runs.now in
     let i = c.loop-run.run_index in
     let inside : i < length ws = omega arith in
-    omega (arith, c.loop-run.invariant.0, sizes_bound p.len ws p.lawful i inside, run_ends 0 p.len ws i p.lawful inside, c.max.ensures, c.first-of-first.ensures, c.end-of.ensures, p.small)
+    omega (arith, c.loop-run.invariant.0, sizes_bound p.len ws p.lawful i inside, run_ends 0 p.len ws i p.lawful inside, c.max.ensures, c.first_of-first.ensures, c.end_of.ensures, p.small)
 
-pub returns-then-place-end-of : goal.returns-then-place-end-of
-returns-then-place-end-of c =
+pub returns-then-place-end_of : goal.returns-then-place-end_of
+returns-then-place-end_of c =
     let p = c.args.self.now in
     let ws = p.runs.now in
     let i = c.loop-run.run_index in
@@ -28,7 +28,7 @@ returns-then-place-end-of c =
       arith,
       c.loop-run.invariant.0,
       c.max.ensures,
-      c.first-of-first.ensures,
+      c.first_of-first.ensures,
       ones-between p.len ws p.lawful i k (omega arith) c.loop-run.invariant.1 (λ h. omega arith),
     ))
     (λ l.
@@ -36,28 +36,28 @@ returns-then-place-end-of c =
       arith,
       c.loop-run.invariant.0,
       c.max.ensures,
-      c.first-of-first.ensures,
-      ones_within p.len ws p.lawful i k inside l (omega (arith, c.end-of.ensures)),
+      c.first_of-first.ensures,
+      ones_within p.len ws p.lawful i k inside l (omega (arith, c.end_of.ensures)),
     ))
     (cases_lt k (first_of w))
     ∙ rank_told (in_runs ws) p.len (covers_past p.len ws p.lawful) k
 
-pub overflow-add-count : goal.overflow-add-count
-overflow-add-count c =
+pub overflow_add-count : goal.overflow_add-count
+overflow_add-count c =
     let p = c.args.self.now in
     let ws = p.runs.now in
     let i = c.loop-run.run_index in
-    omega (arith, c.loop-run.invariant.0, sizes_bound p.len ws p.lawful i (omega arith), c.size-of-count.ensures, p.small)
+    omega (arith, c.loop-run.invariant.0, sizes_bound p.len ws p.lawful i (omega arith), c.size_of-count.ensures, p.small)
 
 pub loop-run-preserved : goal.loop-run-preserved
 loop-run-preserved c =
     let ws = c.args.self.now.runs.now in
     let i = c.loop-run.run_index in (
-      omega (arith, c.loop-run.invariant.0, c.size-of-count.ensures, sum_by_more size_of ws i 0 (omega arith)),
+      omega (arith, c.loop-run.invariant.0, c.size_of-count.ensures, sum_by_more size_of ws i 0 (omega arith)),
       λ j h.
           ⊎_elim
           (λ l. c.loop-run.invariant.1 j l)
-          (λ l. let e : i ≡ j = omega arith in let ends : end_of (get_or ws i 0) ≤ c.args.place = omega (arith, c.end-of.ensures) in subst (λ n. end_of (get_or ws n 0) ≤ c.args.place) e ends)
+          (λ l. let e : i ≡ j = omega arith in let ends : end_of (get_or ws i 0) ≤ c.args.place = omega (arith, c.end_of.ensures) in subst (λ n. end_of (get_or ws n 0) ≤ c.args.place) e ends)
           (cases_lt j i),
     )
 

@@ -18,8 +18,8 @@ returns-then-before-size c =
     let i = c.loop-run.run_index in
     let inside : i < length ws = omega arith in
     let k : ℕ = first_of (get_or ws i 0) + c.loop-run.before in
-    let high : k < end_of (get_or ws i 0) = omega (arith, c.size-of-size.ensures) in
-    ap Some (omega (arith, c.first-of.ensures))
+    let high : k < end_of (get_or ws i 0) = omega (arith, c.size_of-size.ensures) in
+    ap Some (omega (arith, c.first_of.ensures))
     ∙ select_is (in_runs ws) p.len (covers_past p.len ws p.lawful) k c.args.nth
     (covers ws k i inside (omega arith) high)
     (omega (arith, c.loop-run.invariant, ones_within p.len ws p.lawful i k inside (omega arith) (omega arith)))
@@ -27,7 +27,7 @@ returns-then-before-size c =
 pub loop-run-preserved : goal.loop-run-preserved
 loop-run-preserved c =
     let ws = c.args.self.now.runs.now in
-    omega (arith, c.loop-run.invariant, c.size-of-size.ensures, sum_by_more size_of ws c.loop-run.run_index 0 (omega arith))
+    omega (arith, c.loop-run.invariant, c.size_of-size.ensures, sum_by_more size_of ws c.loop-run.run_index 0 (omega arith))
 
 pub returns : goal.returns
 returns c =

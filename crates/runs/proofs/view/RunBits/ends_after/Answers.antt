@@ -11,7 +11,7 @@ returns-then-next-gt0 c =
     let k = c.args.place in
     let i : ℕ = c.args.next - 1 in
     let inside : i < length ws = omega (arith, c.requires.within) in
-    ap (ltb k) (omega (arith, c.end-of.ensures))
+    ap (ltb k) (omega (arith, c.end_of.ensures))
     ∙ ⊎_elim
     (λ l. lt-ltb k (end_of (get_or ws i 0)) l ∙ sym (covers ws k i inside (c.requires.before i (omega arith)) l))
     (λ l.

@@ -9,21 +9,21 @@ use Rattle.runs.proofs.view.RunBits.new.Goals as goal
 pub returns-in-default : goal.returns-in-default
 returns-in-default c =
     let ws = c.args.words.now in
-    let none : ◌≡◌ {A = List Bool} [] (runs_read (run_read ws) ws) = ap (λ r. runs_read r ws) (sym c.in-default.is ∙ c.check-run-bits.ensures.answer) in
+    let none : ◌≡◌ {A = List Bool} [] (runs_read (run_read ws) ws) = ap (λ r. runs_read r ws) (sym c.in-default.is ∙ c.check_run_bits.ensures.answer) in
     record { read = none; means = λ bits rest few e. none ∙ means_law ws bits rest few e }
 
-pub slice-bounds-result-count-2 : goal.slice-bounds-result-count-2
-slice-bounds-result-count-2 c =
+pub slice_bounds-result-count-2 : goal.slice_bounds-result-count-2
+slice_bounds-result-count-2 c =
     let f = read_facts c.args.words.now c.in-Ok.end c.in-Ok.ensures.answer in
     omega (arith, f.4)
 
-pub slice-bounds-result-start-2 : goal.slice-bounds-result-start-2
-slice-bounds-result-start-2 c =
+pub slice_bounds-result-start-2 : goal.slice_bounds-result-start-2
+slice_bounds-result-start-2 c =
     let f = read_facts c.args.words.now c.in-Ok.end c.in-Ok.ensures.answer in
     omega (arith, f.4)
 
-pub slice-bounds-result-end-2 : goal.slice-bounds-result-end-2
-slice-bounds-result-end-2 c =
+pub slice_bounds-result-end-2 : goal.slice_bounds-result-end-2
+slice_bounds-result-end-2 c =
     let f = read_facts c.args.words.now c.in-Ok.end c.in-Ok.ensures.answer in
     omega (arith, f.2, f.4)
 
@@ -36,13 +36,13 @@ bounds-words-0 c =
 cut_out : (ws : List ℕ) (n : ℕ) → Ok n ≡ run_read ws → take (n - 2) (drop 2 ws) ≡ runs_in ws
 cut_out ws n read = ap (λ m. take (m - 2) (drop 2 ws)) (read_facts ws n read).4 ∙ runs_cut ws (get_or ws 1 0)
 
-pub invariant-of-result-2 : goal.invariant-of-result-2
-invariant-of-result-2 c =
+pub invariant_of-result-2 : goal.invariant_of-result-2
+invariant_of-result-2 c =
     let ws = c.args.words.now in
     let n = c.in-Ok.end in
     let read : Ok n ≡ run_read ws = c.in-Ok.ensures.answer in
     let f = read_facts ws n read in
-    (omega (arith, f.1), (ap (runs_fit 0 (get_or ws 0 0)) (cut_out ws n read) ∙ f.3, tt))
+    record { small = omega (arith, f.1); lawful = ap (runs_fit 0 (get_or ws 0 0)) (cut_out ws n read) ∙ f.3 }
 
 pub returns : goal.returns
 returns c =

@@ -11,8 +11,8 @@ returns c =
     let p = c.args.self.now in
     let ws = p.runs.now in
     let key : ℕ = (c.args.place + 1) * 4294967296 in
-    let found : c.first-not-below.result ≡ first_not_below ltb key ws =
-    c.first-not-below.ensures.place (ap (ascends ltb) c.new.ensures ∙ runs_ascend p.len ws p.lawful) ∙ ap (first_not_below ltb key) c.new.ensures in
+    let found : c.first_not_below.result ≡ first_not_below ltb key ws =
+    c.first_not_below.ensures.place (ap (ascends ltb) c.new.ensures ∙ runs_ascend p.len ws p.lawful) ∙ ap (first_not_below ltb key) c.new.ensures in
     record {
       within = omega (arith, found, place_length ltb key ws);
       before = λ i h.

@@ -2,15 +2,15 @@ use Rattle.std.proofs.Common.{◌≡◌, ◌+◌, [], ◌∷◌, length, sym, re
 use Rattle.session.specs.Rolls.{is_open_at, open_cursors}
 use Rattle.session.proofs.Rolls.{upto, upto_yes, upto_no}
 use Rattle.session.proofs.cursor.Table.count_open.Goals as goal
-use Rattle.session.proofs.cursor.Table.count_open.Goals.{then-is-open-at, else-is-open-at}
+use Rattle.session.proofs.cursor.Table.count_open.Goals.{then-is_open_at, else-is_open_at}
 
 pub loop-cursor-preserved : goal.loop-cursor-preserved
 loop-cursor-preserved c =
     let test = is_open_at c.args.self.now in
     let k = c.loop-cursor.cursor in
-    elim c.if-is-open-at.branch [
-      | then-is-open-at w ↦ let more : length (upto test (k + 1)) ≡ length (upto test k) + 1 = ap length (upto_yes test k (sym w.if-is-open-at.ensures)) ∙ length-append (upto test k) (k ∷ []) in (omega (arith, w.count-is), omega (arith, w.count-is))
-      | else-is-open-at w ↦ let same : length (upto test (k + 1)) ≡ length (upto test k) = ap length (upto_no test k (sym w.if-is-open-at.ensures)) in (omega (arith, w.count-is), omega (arith, w.count-is))
+    elim c.if-is_open_at.branch [
+      | then-is_open_at w ↦ let more : length (upto test (k + 1)) ≡ length (upto test k) + 1 = ap length (upto_yes test k (sym w.if-is_open_at.ensures)) ∙ length-append (upto test k) (k ∷ []) in (omega (arith, w.count-is), omega (arith, w.count-is))
+      | else-is_open_at w ↦ let same : length (upto test (k + 1)) ≡ length (upto test k) = ap length (upto_no test k (sym w.if-is_open_at.ensures)) in (omega (arith, w.count-is), omega (arith, w.count-is))
     ]
 
 pub returns : goal.returns

@@ -5,18 +5,18 @@ use Rattle.session.specs.Rolls.{roll_outcome, open_cursors}
 use Rattle.session.proofs.Rolls.{open_once}
 use Rattle.session.proofs.cursor.Table.roll.Goals as goal
 
-pub returns-then-buffer-count-open : goal.returns-then-buffer-count-open
+pub returns-then-buffer-count_open : goal.returns-then-buffer-count_open
 unfolding roll_outcome
-returns-then-buffer-count-open c =
-    let short : length c.args.buffer.now < length (open_cursors c.args.self.now) = omega (arith, c.count-open.ensures) in
+returns-then-buffer-count_open c =
+    let short : length c.args.buffer.now < length (open_cursors c.args.self.now) = omega (arith, c.count_open.ensures) in
     record { answer = sym (cond-true _ _ _ (lt-ltb _ _ short)); wrote = tt; rest = refl }
 
 pub returns : goal.returns
 unfolding roll_outcome
 returns c =
-    let room : length (open_cursors c.args.self.now) ≤ length c.args.buffer.now = omega (arith, c.count-open.ensures) in
+    let room : length (open_cursors c.args.self.now) ≤ length c.args.buffer.now = omega (arith, c.count_open.ensures) in
     record {
-      answer = ap counted c.write-open.ensures.count ∙ sym (cond-false _ _ _ (le-ltb _ _ room));
-      wrote = λ k. ap (occurrences k) c.write-open.ensures.front ∙ open_once c.args.self.now k;
-      rest = c.write-open.ensures.rest;
+      answer = ap counted c.write_open.ensures.count ∙ sym (cond-false _ _ _ (le-ltb _ _ room));
+      wrote = λ k. ap (occurrences k) c.write_open.ensures.front ∙ open_once c.args.self.now k;
+      rest = c.write_open.ensures.rest;
     }

@@ -4,7 +4,7 @@ use Rattle.session.specs.Rolls.{is_open_at, open_cursors}
 use Rattle.session.specs.declared.cursor.Table.{Table}
 use Rattle.session.proofs.Rolls.{upto, upto_yes, upto_no, upto_grows, wrote_yes, wrote_no}
 use Rattle.session.proofs.cursor.Table.write_open.Goals as goal
-use Rattle.session.proofs.cursor.Table.write_open.Goals.{then-is-open-at, else-is-open-at}
+use Rattle.session.proofs.cursor.Table.write_open.Goals.{then-is_open_at, else-is_open_at}
 
 -- a cursor that is open has its room in the buffer
 room : (t : Table) (k n size : ℕ) → k < 8 → is_open_at t k ≡ true → n ≡ length (upto (is_open_at t) k) → length (open_cursors t) ≤ size → n < size
@@ -19,24 +19,24 @@ room t k n size h e m b =
 
 pub bounds-buffer-count : goal.bounds-buffer-count
 bounds-buffer-count c =
-    room c.args.self.now c.loop-cursor.cursor c.loop-cursor.count _ c.loop-cursor-test.true (sym c.if-is-open-at.ensures) c.loop-cursor.invariant.0
+    room c.args.self.now c.loop-cursor.cursor c.loop-cursor.count _ c.loop-cursor-test.true (sym c.if-is_open_at.ensures) c.loop-cursor.invariant.0
     (omega arith)
 
-pub offset-bounds-buffer-count : goal.offset-bounds-buffer-count
-offset-bounds-buffer-count c =
+pub offset_bounds-buffer-count : goal.offset_bounds-buffer-count
+offset_bounds-buffer-count c =
     omega (arith, bounds-buffer-count c)
 
-pub overflow-add-count : goal.overflow-add-count
-overflow-add-count c = omega (arith, bounds-buffer-count c)
+pub overflow_add-count : goal.overflow_add-count
+overflow_add-count c = omega (arith, bounds-buffer-count c)
 
 pub loop-cursor-preserved : goal.loop-cursor-preserved
 loop-cursor-preserved c =
     let test = is_open_at c.args.self.now in
     let k = c.loop-cursor.cursor in
     let inv = c.loop-cursor.invariant in
-    elim c.if-is-open-at.branch [
-      | then-is-open-at w ↦ rw (w.buffer-is, w.count-is) (wrote_yes test k c.loop-cursor.count c.loop-cursor.buffer c.args.buffer.now inv.0 inv.1 inv.2 (room c.args.self.now k c.loop-cursor.count _ c.loop-cursor-test.true (sym w.if-is-open-at.ensures) inv.0 (omega arith)) (sym w.if-is-open-at.ensures))
-      | else-is-open-at w ↦ rw (w.buffer-is, w.count-is) (wrote_no test k c.loop-cursor.count c.loop-cursor.buffer c.args.buffer.now inv.0 inv.1 inv.2 (sym w.if-is-open-at.ensures))
+    elim c.if-is_open_at.branch [
+      | then-is_open_at w ↦ rw (w.buffer-is, w.count-is) (wrote_yes test k c.loop-cursor.count c.loop-cursor.buffer c.args.buffer.now inv.0 inv.1 inv.2 (room c.args.self.now k c.loop-cursor.count _ c.loop-cursor-test.true (sym w.if-is_open_at.ensures) inv.0 (omega arith)) (sym w.if-is_open_at.ensures))
+      | else-is_open_at w ↦ rw (w.buffer-is, w.count-is) (wrote_no test k c.loop-cursor.count c.loop-cursor.buffer c.args.buffer.now inv.0 inv.1 inv.2 (sym w.if-is_open_at.ensures))
     ]
 
 pub returns : goal.returns
