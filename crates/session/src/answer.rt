@@ -28,8 +28,8 @@ pub(crate) const CLOSED: Cursor = Cursor {
 impl Cursor {
     // Replies to what is asked, by the cursor's state; a refusal leaves the cursor as it was.
     pub(crate) fn answer<S: QuadSource>(&mut self, source: &S, ask: Ask) -> Result<Reply, Refusal>
-        ensures outcome { replied result ≡ cursor_outcome (means source.now) self.old ask }
-        ensures after { self.new ≡ cursor_after (means source.now) self.old ask }
+        ensures outcome { replied result ≡ cursor_outcome (S.means source.now) self.old ask }
+        ensures after { self.new ≡ cursor_after (S.means source.now) self.old ask }
         ensures kept { is_ok result ≡ false → self.new ≡ self.old }
     {
         match (self.state, ask) {
@@ -69,15 +69,15 @@ impl Cursor {
 
     // Counts the quads from the mark on.
     fn left<S: QuadSource>(&self, source: &S, mark: Mark) -> Reply
-        ensures { replied (Ok result) ≡ left_from (means source.now) self.now.pattern mark }
+        ensures { replied (Ok result) ≡ left_from (S.means source.now) self.now.pattern mark }
     {
         Reply::Counted(count_from(source, self.pattern, mark))
     }
 
     // Gives the first quad from the mark on and moves the mark right after it, or ends.
     fn advance<S: QuadSource>(&mut self, source: &S, mark: Mark) -> Reply
-        ensures outcome { replied (Ok result) ≡ gave_or (first_from (means source.now) self.old.pattern mark) }
-        ensures after { self.new ≡ advanced self.old (first_from (means source.now) self.old.pattern mark) }
+        ensures outcome { replied (Ok result) ≡ gave_or (first_from (S.means source.now) self.old.pattern mark) }
+        ensures after { self.new ≡ advanced self.old (first_from (S.means source.now) self.old.pattern mark) }
     {
         match source.first(self.pattern, mark) {
             Some(quad) => {
@@ -94,7 +94,7 @@ impl Cursor {
 
     // Moves the mark forward, or keeps it, and counts the quads that are passed over.
     fn jump<S: QuadSource>(&mut self, source: &S, mark: Mark, to: Mark) -> Result<Reply, Refusal>
-        ensures outcome { replied result ≡ sought_outcome (means source.now) self.old.pattern mark to }
+        ensures outcome { replied result ≡ sought_outcome (S.means source.now) self.old.pattern mark to }
         ensures after { self.new ≡ sought self.old mark to }
         ensures kept { is_ok result ≡ false → self.new ≡ self.old }
     {

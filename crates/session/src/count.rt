@@ -30,7 +30,7 @@ const TOP: Mark = Quad {
 
 // How many quads of the source match the pattern, from the mark on.
 pub(crate) fn count_from<S: QuadSource>(source: &S, pattern: Pattern, from: Mark) -> u32
-    ensures { result ≡ capped (length (not_below from (matching (means source.now) pattern))) }
+    ensures { result ≡ capped (length (not_below from (matching (S.means source.now) pattern))) }
 {
     count_between(source, pattern, from, TOP)
 }
@@ -42,7 +42,7 @@ pub(crate) fn count_between<S: QuadSource>(
     from: Mark,
     to: Mark,
 ) -> u32
-    ensures { result ≡ capped (length (between from to (matching (means source.now) pattern))) }
+    ensures { result ≡ capped (length (between from to (matching (S.means source.now) pattern))) }
 {
     let mut count = 0;
     let mut mark = from;

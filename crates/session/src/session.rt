@@ -24,7 +24,7 @@ impl<'a, S: QuadSource> Session<'a, S> {
     pub fn attach(source: &'a S) -> Session<'a, S>
         ensures source { result.source.now ≡ source.now }
         ensures closed { result.table ≡ new_table }
-        ensures law { Keeps (means source.now) [] result.table }
+        ensures law { Keeps (S.means source.now) [] result.table }
     {
         Session {
             source,
@@ -34,52 +34,52 @@ impl<'a, S: QuadSource> Session<'a, S> {
 
     // Sets a closed cursor to list the quads that match the pattern, from the first.
     pub fn open(&mut self, cursor: u32, pattern: Pattern) -> Result<(), Refusal>
-        ensures answer { of_open result ≡ ask_outcome (means self.old.source.now) self.old.table cursor (Open pattern) }
-        ensures after { self.new.table ≡ ask_after (means self.old.source.now) self.old.table cursor (Open pattern) }
+        ensures answer { of_open result ≡ ask_outcome (S.means self.old.source.now) self.old.table cursor (Open pattern) }
+        ensures after { self.new.table ≡ ask_after (S.means self.old.source.now) self.old.table cursor (Open pattern) }
         ensures source { self.new.source.now ≡ self.old.source.now }
         ensures kept { is_ok result ≡ false → self.new.table ≡ self.old.table }
-        ensures law { Follows (means self.old.source.now) self.old.table (On cursor (Open pattern)) (of_open result) self.new.table }
+        ensures law { Follows (S.means self.old.source.now) self.old.table (On cursor (Open pattern)) (of_open result) self.new.table }
     {
         self.table.open(self.source, cursor, pattern)
     }
 
     // Gives the next quad that matches, or none where all were given or jumped.
     pub fn next(&mut self, cursor: u32) -> Result<Option<Quad>, Refusal>
-        ensures answer { of_next result ≡ ask_outcome (means self.old.source.now) self.old.table cursor Next }
-        ensures after { self.new.table ≡ ask_after (means self.old.source.now) self.old.table cursor Next }
+        ensures answer { of_next result ≡ ask_outcome (S.means self.old.source.now) self.old.table cursor Next }
+        ensures after { self.new.table ≡ ask_after (S.means self.old.source.now) self.old.table cursor Next }
         ensures source { self.new.source.now ≡ self.old.source.now }
         ensures kept { is_ok result ≡ false → self.new.table ≡ self.old.table }
-        ensures law { Follows (means self.old.source.now) self.old.table (On cursor Next) (of_next result) self.new.table }
+        ensures law { Follows (S.means self.old.source.now) self.old.table (On cursor Next) (of_next result) self.new.table }
     {
         self.table.next(self.source, cursor)
     }
 
     // Moves the cursor's mark forward, or keeps it, and counts the quads that this newly jumps.
     pub fn seek(&mut self, cursor: u32, mark: Mark) -> Result<u32, Refusal>
-        ensures answer { of_count result ≡ ask_outcome (means self.old.source.now) self.old.table cursor (Seek mark) }
-        ensures after { self.new.table ≡ ask_after (means self.old.source.now) self.old.table cursor (Seek mark) }
+        ensures answer { of_count result ≡ ask_outcome (S.means self.old.source.now) self.old.table cursor (Seek mark) }
+        ensures after { self.new.table ≡ ask_after (S.means self.old.source.now) self.old.table cursor (Seek mark) }
         ensures source { self.new.source.now ≡ self.old.source.now }
         ensures kept { is_ok result ≡ false → self.new.table ≡ self.old.table }
-        ensures law { Follows (means self.old.source.now) self.old.table (On cursor (Seek mark)) (of_count result) self.new.table }
+        ensures law { Follows (S.means self.old.source.now) self.old.table (On cursor (Seek mark)) (of_count result) self.new.table }
     {
         self.table.seek(self.source, cursor, mark)
     }
 
     // Counts the quads that are left.
     pub fn left(&self, cursor: u32) -> Result<u32, Refusal>
-        ensures answer { of_count result ≡ ask_outcome (means self.now.source.now) self.now.table cursor Left }
-        ensures law { Follows (means self.now.source.now) self.now.table (On cursor Left) (of_count result) self.now.table }
+        ensures answer { of_count result ≡ ask_outcome (S.means self.now.source.now) self.now.table cursor Left }
+        ensures law { Follows (S.means self.now.source.now) self.now.table (On cursor Left) (of_count result) self.now.table }
     {
         self.table.left(self.source, cursor)
     }
 
     // Closes an open cursor, and counts the quads that this opening gave.
     pub fn close(&mut self, cursor: u32) -> Result<u32, Refusal>
-        ensures answer { of_count result ≡ ask_outcome (means self.old.source.now) self.old.table cursor Close }
-        ensures after { self.new.table ≡ ask_after (means self.old.source.now) self.old.table cursor Close }
+        ensures answer { of_count result ≡ ask_outcome (S.means self.old.source.now) self.old.table cursor Close }
+        ensures after { self.new.table ≡ ask_after (S.means self.old.source.now) self.old.table cursor Close }
         ensures source { self.new.source.now ≡ self.old.source.now }
         ensures kept { is_ok result ≡ false → self.new.table ≡ self.old.table }
-        ensures law { Follows (means self.old.source.now) self.old.table (On cursor Close) (of_count result) self.new.table }
+        ensures law { Follows (S.means self.old.source.now) self.old.table (On cursor Close) (of_count result) self.new.table }
     {
         self.table.close(self.source, cursor)
     }
@@ -87,7 +87,7 @@ impl<'a, S: QuadSource> Session<'a, S> {
     // How many quads all cursors gave since attaching, over all their openings.
     pub fn tally(&self) -> u32
         ensures answer { result ≡ self.now.table.given }
-        ensures law { Follows (means self.now.source.now) self.now.table Tally (counted result) self.now.table }
+        ensures law { Follows (S.means self.now.source.now) self.now.table Tally (counted result) self.now.table }
     {
         self.table.given
     }
@@ -97,7 +97,7 @@ impl<'a, S: QuadSource> Session<'a, S> {
         ensures answer { of_count result ≡ roll_outcome self.now.table (length buffer.old) }
         ensures wrote { RollWrote self.now.table buffer.new result }
         ensures rest { RollLeft result buffer.old buffer.new }
-        ensures law { Follows (means self.now.source.now) self.now.table (Roll (length buffer.old)) (of_roll result buffer.new) self.now.table }
+        ensures law { Follows (S.means self.now.source.now) self.now.table (Roll (length buffer.old)) (of_roll result buffer.new) self.now.table }
     {
         self.table.roll(buffer)
     }

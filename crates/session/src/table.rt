@@ -44,8 +44,8 @@ impl Table {
         cursor: u32,
         ask: Ask,
     ) -> Result<Reply, Refusal>
-        ensures outcome { replied result ≡ ask_outcome (means source.now) self.old cursor ask }
-        ensures after { self.new ≡ ask_after (means source.now) self.old cursor ask }
+        ensures outcome { replied result ≡ ask_outcome (S.means source.now) self.old cursor ask }
+        ensures after { self.new ≡ ask_after (S.means source.now) self.old cursor ask }
         ensures kept { is_ok result ≡ false → self.new ≡ self.old }
     {
         if cursor >= CURSORS {
@@ -67,8 +67,8 @@ impl Table {
         cursor: u32,
         pattern: Pattern,
     ) -> Result<(), Refusal>
-        ensures answer { of_open result ≡ ask_outcome (means source.now) self.old cursor (Open pattern) }
-        ensures after { self.new ≡ ask_after (means source.now) self.old cursor (Open pattern) }
+        ensures answer { of_open result ≡ ask_outcome (S.means source.now) self.old cursor (Open pattern) }
+        ensures after { self.new ≡ ask_after (S.means source.now) self.old cursor (Open pattern) }
         ensures kept { is_ok result ≡ false → self.new ≡ self.old }
     {
         self.ask(source, cursor, Ask::Open(pattern))?;
@@ -80,8 +80,8 @@ impl Table {
         source: &S,
         cursor: u32,
     ) -> Result<Option<Quad>, Refusal>
-        ensures answer { of_next result ≡ ask_outcome (means source.now) self.old cursor Next }
-        ensures after { self.new ≡ ask_after (means source.now) self.old cursor Next }
+        ensures answer { of_next result ≡ ask_outcome (S.means source.now) self.old cursor Next }
+        ensures after { self.new ≡ ask_after (S.means source.now) self.old cursor Next }
         ensures kept { is_ok result ≡ false → self.new ≡ self.old }
     {
         match self.ask(source, cursor, Ask::Next)? {
@@ -96,8 +96,8 @@ impl Table {
         cursor: u32,
         mark: Mark,
     ) -> Result<u32, Refusal>
-        ensures answer { of_count result ≡ ask_outcome (means source.now) self.old cursor (Seek mark) }
-        ensures after { self.new ≡ ask_after (means source.now) self.old cursor (Seek mark) }
+        ensures answer { of_count result ≡ ask_outcome (S.means source.now) self.old cursor (Seek mark) }
+        ensures after { self.new ≡ ask_after (S.means source.now) self.old cursor (Seek mark) }
         ensures kept { is_ok result ≡ false → self.new ≡ self.old }
     {
         let jumped = self.ask(source, cursor, Ask::Seek(mark))?;
@@ -105,7 +105,7 @@ impl Table {
     }
 
     pub(crate) fn left<S: QuadSource>(&self, source: &S, cursor: u32) -> Result<u32, Refusal>
-        ensures answer { of_count result ≡ ask_outcome (means source.now) self.now cursor Left }
+        ensures answer { of_count result ≡ ask_outcome (S.means source.now) self.now cursor Left }
     {
         let mut copy = *self;
         let left = copy.ask(source, cursor, Ask::Left)?;
@@ -113,8 +113,8 @@ impl Table {
     }
 
     pub(crate) fn close<S: QuadSource>(&mut self, source: &S, cursor: u32) -> Result<u32, Refusal>
-        ensures answer { of_count result ≡ ask_outcome (means source.now) self.old cursor Close }
-        ensures after { self.new ≡ ask_after (means source.now) self.old cursor Close }
+        ensures answer { of_count result ≡ ask_outcome (S.means source.now) self.old cursor Close }
+        ensures after { self.new ≡ ask_after (S.means source.now) self.old cursor Close }
         ensures kept { is_ok result ≡ false → self.new ≡ self.old }
     {
         let given = self.ask(source, cursor, Ask::Close)?;

@@ -10,7 +10,7 @@ use session::{Ask, Call, Session};
 
 // Makes the call, and answers what came of it.
 pub(crate) fn make<S: QuadSource>(session: &mut Session<'_, S>, call: Call) -> Answer
-    ensures law { Follows (means session.old.source.now) session.old.table call (outcome_of result) session.new.table }
+    ensures law { Follows (S.means session.old.source.now) session.old.table call (outcome_of result) session.new.table }
     ensures source { session.new.source.now ≡ session.old.source.now }
     ensures rest { RestKept result }
 {
@@ -22,7 +22,7 @@ pub(crate) fn make<S: QuadSource>(session: &mut Session<'_, S>, call: Call) -> A
 }
 
 fn make_on<S: QuadSource>(session: &mut Session<'_, S>, cursor: u32, ask: Ask) -> Answer
-    ensures law { Follows (means session.old.source.now) session.old.table (On cursor ask) (outcome_of result) session.new.table }
+    ensures law { Follows (S.means session.old.source.now) session.old.table (On cursor ask) (outcome_of result) session.new.table }
     ensures source { session.new.source.now ≡ session.old.source.now }
     ensures rest { RestKept result }
 {
@@ -37,7 +37,7 @@ fn make_on<S: QuadSource>(session: &mut Session<'_, S>, cursor: u32, ask: Ask) -
 
 // A buffer with room for the eight cursors serves as well as a longer one.
 fn make_roll<S: QuadSource>(session: &Session<'_, S>, room: usize) -> Answer
-    ensures law { Follows (means session.now.source.now) session.now.table (Roll room) (outcome_of result) session.now.table }
+    ensures law { Follows (S.means session.now.source.now) session.now.table (Roll room) (outcome_of result) session.now.table }
     ensures rest { RestKept result }
 {
     let mut buffer = [0u32; 8];

@@ -14,7 +14,7 @@ use session::Session;
 // stands in the records is what a host is promised of any use of a session.
 pub fn run<S: QuadSource>(source: &S, records: &mut [Record])
     ensures calls { calls_of records.new ≡ calls_of records.old }
-    ensures law { Law (means source.now) (history_of records.new) }
+    ensures law { Law (S.means source.now) (history_of records.new) }
     ensures rest { All (λ r. RestKept r.answer) records.new }
 {
     let mut session = Session::attach(source);
@@ -28,8 +28,8 @@ pub fn run<S: QuadSource>(source: &S, records: &mut [Record])
 pub fn run_twice<S: QuadSource>(source: &S, first: &mut [Record], second: &mut [Record])
     ensures first_calls { calls_of first.new ≡ calls_of first.old }
     ensures second_calls { calls_of second.new ≡ calls_of second.old }
-    ensures first_law { Law (means source.now) (history_of first.new) }
-    ensures second_law { Law (means source.now) (history_of second.new) }
+    ensures first_law { Law (S.means source.now) (history_of first.new) }
+    ensures second_law { Law (S.means source.now) (history_of second.new) }
     ensures first_rest { All (λ r. RestKept r.answer) first.new }
     ensures second_rest { All (λ r. RestKept r.answer) second.new }
     ensures apart { (k : ℕ) → calls (on k (history_of first.new)) ≡ calls (on k (history_of second.new)) → on k (history_of first.new) ≡ on k (history_of second.new) }

@@ -54,4 +54,4 @@ returns g c =
     let s = c.args.source.now in
     let src = g.S.QuadSource in
     count_none (src.means s) (src.ascending s) (src.ids s) c.args.pattern c.loop-quad.mark c.args.to c.loop-quad.count _
-    c.loop-quad.invariant.1 c.loop-quad.invariant.0 (sym c.in-default.ensures)
+    c.loop-quad.invariant.1 c.loop-quad.invariant.0 (sym c.in_default.ensures)

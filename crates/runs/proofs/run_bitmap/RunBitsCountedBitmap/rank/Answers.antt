@@ -10,7 +10,7 @@ pub overflow_add-result : goal.overflow_add-result
 overflow_add-result c =
     let p = c.args.self.now in
     let ws = p.runs.now in
-    let i = c.loop-run.run_index in
+    let i = c.loop-run.run-index in
     let inside : i < length ws = omega arith in
     omega (arith, c.loop-run.invariant.0, sizes_bound p.len ws p.lawful i inside, run_ends 0 p.len ws i p.lawful inside, c.max.ensures, c.first_of-first.ensures, c.end_of.ensures, p.small)
 
@@ -18,7 +18,7 @@ pub returns-then-place-end_of : goal.returns-then-place-end_of
 returns-then-place-end_of c =
     let p = c.args.self.now in
     let ws = p.runs.now in
-    let i = c.loop-run.run_index in
+    let i = c.loop-run.run-index in
     let k = c.args.place in
     let w : ℕ = get_or ws i 0 in
     let inside : i < length ws = omega arith in
@@ -46,13 +46,13 @@ pub overflow_add-count : goal.overflow_add-count
 overflow_add-count c =
     let p = c.args.self.now in
     let ws = p.runs.now in
-    let i = c.loop-run.run_index in
+    let i = c.loop-run.run-index in
     omega (arith, c.loop-run.invariant.0, sizes_bound p.len ws p.lawful i (omega arith), c.size_of-count.ensures, p.small)
 
 pub loop-run-preserved : goal.loop-run-preserved
 loop-run-preserved c =
     let ws = c.args.self.now.runs.now in
-    let i = c.loop-run.run_index in (
+    let i = c.loop-run.run-index in (
       omega (arith, c.loop-run.invariant.0, c.size_of-count.ensures, sum_by_more size_of ws i 0 (omega arith)),
       λ j h.
           ⊎_elim
@@ -65,7 +65,7 @@ pub returns : goal.returns
 returns c =
     let p = c.args.self.now in
     let ws = p.runs.now in
-    let i = c.loop-run.run_index in
+    let i = c.loop-run.run-index in
     let k = c.args.place in
     c.loop-run.invariant.0
     ∙ sym (ones-between p.len ws p.lawful i k (omega arith) c.loop-run.invariant.1 (λ h. absurd (omega arith)))

@@ -15,7 +15,7 @@ pub returns-then-before-size : goal.returns-then-before-size
 returns-then-before-size c =
     let p = c.args.self.now in
     let ws = p.runs.now in
-    let i = c.loop-run.run_index in
+    let i = c.loop-run.run-index in
     let inside : i < length ws = omega arith in
     let k : ℕ = first_of (get_or ws i 0) + c.loop-run.before in
     let high : k < end_of (get_or ws i 0) = omega (arith, c.size_of-size.ensures) in
@@ -27,13 +27,13 @@ returns-then-before-size c =
 pub loop-run-preserved : goal.loop-run-preserved
 loop-run-preserved c =
     let ws = c.args.self.now.runs.now in
-    omega (arith, c.loop-run.invariant, c.size_of-size.ensures, sum_by_more size_of ws c.loop-run.run_index 0 (omega arith))
+    omega (arith, c.loop-run.invariant, c.size_of-size.ensures, sum_by_more size_of ws c.loop-run.run-index 0 (omega arith))
 
 pub returns : goal.returns
 returns c =
     let p = c.args.self.now in
     let ws = p.runs.now in
-    let i = c.loop-run.run_index in
+    let i = c.loop-run.run-index in
     let all : ones (in_runs ws) p.len ≡ sum_by size_of (take i ws) =
     ones-between p.len ws p.lawful i p.len (omega arith) (λ j l. run_ends 0 p.len ws j p.lawful (omega arith)) (λ h. absurd (omega arith)) in
     select_none (in_runs ws) p.len (covers_past p.len ws p.lawful) c.args.nth (inr (omega (arith, all, c.loop-run.invariant)))

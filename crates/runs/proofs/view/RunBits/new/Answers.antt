@@ -6,10 +6,10 @@ use Rattle.runs.proofs.RunReading.{runs_cut, read_facts}
 use Rattle.runs.proofs.RunRowLaws.{means_law}
 use Rattle.runs.proofs.view.RunBits.new.Goals as goal
 
-pub returns-in-default : goal.returns-in-default
-returns-in-default c =
+pub returns-in_default : goal.returns-in_default
+returns-in_default c =
     let ws = c.args.words.now in
-    let none : ◌≡◌ {A = List Bool} [] (runs_read (run_read ws) ws) = ap (λ r. runs_read r ws) (sym c.in-default.is ∙ c.check_run_bits.ensures.answer) in
+    let none : ◌≡◌ {A = List Bool} [] (runs_read (run_read ws) ws) = ap (λ r. runs_read r ws) (sym c.in_default.is ∙ c.check_run_bits.ensures.answer) in
     record { read = none; means = λ bits rest few e. none ∙ means_law ws bits rest few e }
 
 pub slice_bounds-result-count-2 : goal.slice_bounds-result-count-2
