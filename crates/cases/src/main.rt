@@ -1,4 +1,6 @@
 // Many cases of the public calls, with a line for each answer. What must come out is written by tools/cases.py.
+#![tactic(auto)]
+
 mod answers;
 mod checks;
 mod draws;

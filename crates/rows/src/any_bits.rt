@@ -19,8 +19,8 @@ pub struct AnyBits<'a> {
 impl<'a> AnyBits<'a> {
     // The row of this kind at the front of the words, or an empty one if there is none.
     pub fn new(kind: BitsKind, words: &'a [u64]) -> AnyBits<'a>
-        ensures bits { any_bits result ≡ bits_at kind.entry words.now }
-        ensures list { ReadsBits kind.entry words.now (any_bits result) }
+        ensures bits { any_bits result ≡ bits_at kind words.now }
+        ensures list { ReadsBits kind words.now (any_bits result) }
     {
         match kind {
             BitsKind::Plain => AnyBits {

@@ -16,8 +16,8 @@ pub struct AnyNumbers<'a> {
 impl<'a> AnyNumbers<'a> {
     // The row of this kind at the front of the words, or an empty one if there is none.
     pub fn new(kind: NumbersKind, words: &'a [u64]) -> AnyNumbers<'a>
-        ensures numbers { any_numbers result ≡ numbers_at kind.entry words.now }
-        ensures list { ReadsNumbers kind.entry words.now (any_numbers result) }
+        ensures numbers { any_numbers result ≡ numbers_at kind words.now }
+        ensures list { ReadsNumbers kind words.now (any_numbers result) }
     {
         match kind {
             NumbersKind::Plain => AnyNumbers {

@@ -1,4 +1,6 @@
 // A tour of a small library's catalogue: questions that a reader may put, and what the store answers.
+#![tactic(auto)]
+
 mod catalogue;
 mod desk;
 mod names;
