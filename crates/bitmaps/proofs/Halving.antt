@@ -1,5 +1,5 @@
 -- Halving a word for the place of a one. Assumes nothing.
-use Rattle.std.proofs.Common.{◌≡◌, ℕ, zero, suc, ◌+◌, ◌-◌, ◌*◌, ◌/◌, ◌%◌, ◌^◌, ◌<◌, ◌≤◌, true, eqb, sym, refl, ap, ◌∙◌, subst, ⊎_elim, arith, pow_pos, shr-shr}
+use Rattle.std.proofs.Common.{◌≡◌, ℕ, zero, suc, ◌+◌, ◌-◌, ◌*◌, ◌/◌, ◌%◌, ◌^◌, ◌<◌, ◌≤◌, true, ap, ◌∙◌, ⊎_elim, arith, pow_pos, shr-shr}
 use lib.Bits.{bit_and, and_mask}
 use lib.Count.{ones, ones-le, ones_cat}
 use lib.Pow.{mod-pow-add}

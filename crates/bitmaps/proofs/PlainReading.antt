@@ -1,12 +1,12 @@
 -- The cases of reading plain bits. Assumes nothing.
-use Rattle.std.proofs.Common.{◌≡◌, ℕ, ◌+◌, ◌-◌, ◌*◌, ◌/◌, ◌<◌, ◌≤◌, Bool, true, false, not, eqb, ltb, ◌⊎◌, List, length, get_or, take, drop, Ok, Err, sym, ap, ◌∙◌, subst, ⊎_elim, arith}
+use Rattle.std.proofs.Common.{◌≡◌, ℕ, ◌+◌, ◌-◌, ◌*◌, ◌/◌, ◌<◌, ◌≤◌, true, false, eqb, ltb, List, length, get_or, take, drop, Ok, Err, sym, ap, ◌∙◌, ⊎_elim, arith}
 use Rattle.std.proofs.lemmas.Bool.{cond-true, cond-false, eq-eqb, ne_eqb, lt-ltb, le-ltb, not_from_true, not_from_false, cases_Bool, cases_lt, cases_eq, eqb-true}
-use Rattle.bits.specs.Words.{bit_at, bits_in, words_for, spare_zero}
+use Rattle.bits.specs.Words.{bit_at, bits_in, spare_zero}
 use Rattle.bitmaps.specs.Counts.{ones_of}
 use Rattle.bits.proofs.Ranges.{each_range}
 use Rattle.bits.proofs.Spare.{spare_all}
 use Rattle.std.proofs.lemmas.List.{length-take, length-drop}
-use Rattle.bitmaps.specs.PlainRows.{plain_read, plain_room, blocks_for, bit_words, directory_words, tells_ones}
+use Rattle.bitmaps.specs.PlainRows.{plain_read, plain_room, bit_words, directory_words, tells_ones}
 use Rattle.bitmaps.specs.declared.fault.BitsFault.TheVariants.{Short, TooManyBits, SpareBitSet, WrongContent}
 
 -- what is cut out are the words of the bits and those of the directory

@@ -1,5 +1,5 @@
 -- A row of plain bits that is read is the words of its bits. Assumes nothing.
-use Rattle.std.proofs.Common.{◌≡◌, ℕ, zero, suc, ◌+◌, ◌-◌, ◌*◌, ◌/◌, ◌%◌, ◌^◌, ◌<◌, ◌≤◌, min, Bool, true, false, ◌⊎◌, List, [], ◌∷◌, ◌++◌, map, length, get_or, take, drop, Ok, sym, refl, ap, ◌∙◌, subst, ⊎_elim, mod-lt, arith, pow_pos}
+use Rattle.std.proofs.Common.{◌≡◌, ℕ, zero, suc, ◌+◌, ◌-◌, ◌*◌, ◌/◌, ◌%◌, ◌^◌, ◌<◌, min, List, [], ◌∷◌, ◌++◌, map, length, get_or, take, drop, Ok, sym, refl, ap, ◌∙◌, subst, ⊎_elim, mod-lt, arith, pow_pos}
 use lib.Pow.{split}
 use Rattle.std.specs.List.{range_with_len}
 use Rattle.std.proofs.lemmas.List.FromFn.{length-map-range_with_len, fill_by_all}
@@ -7,8 +7,8 @@ use Rattle.std.proofs.lemmas.List.{get_or-take, get_or-drop}
 use Rattle.std.proofs.lemmas.Bool.{cases_lt, eqb-true}
 use Rattle.bits.specs.Words.{bit_at, bits_in, words_for, packed_bits}
 use Rattle.bits.proofs.Packed.{packed_again}
-use Rattle.bitmaps.specs.Counts.{ones_of, rank_of}
-use Rattle.bitmaps.specs.PlainRows.{plain_read, plain_room, plain_words, directory_of, blocks_for, bit_words, directory_words}
+use Rattle.bitmaps.specs.Counts.{rank_of}
+use Rattle.bitmaps.specs.PlainRows.{plain_read, plain_words, directory_of, blocks_for, bit_words, directory_words}
 use Rattle.bitmaps.proofs.Following.{rank_bits}
 use Rattle.bits.proofs.Spare.{spare_word}
 use Rattle.bitmaps.proofs.PlainReading.{read_facts, row_long, row_begun, row_counts}

@@ -1,5 +1,5 @@
 -- Words whose spare bits are zeros are the words of their bits. Assumes nothing.
-use Rattle.std.proofs.Common.{◌≡◌, ℕ, ◌+◌, ◌-◌, ◌*◌, ◌/◌, ◌%◌, ◌^◌, ◌<◌, ◌≤◌, min, true, List, length, get_or, sym, ap, ◌∙◌, subst, ⊎_elim, mod-lt, arith, pow_pos}
+use Rattle.std.proofs.Common.{◌≡◌, ℕ, ◌+◌, ◌-◌, ◌*◌, ◌/◌, ◌%◌, ◌^◌, ◌<◌, min, true, List, length, get_or, sym, ap, ◌∙◌, subst, ⊎_elim, mod-lt, arith, pow_pos}
 use lib.Pow.{split}
 use Rattle.std.proofs.lemmas.Bool.{cases_lt, eqb-true}
 use Rattle.bits.specs.Words.{bits_in, words_for, packed_bits, spare_zero}

@@ -1,5 +1,5 @@
 -- A number in so many bits of one word or of two. Assumes nothing.
-use Rattle.std.proofs.Common.{◌≡◌, ℕ, ◌+◌, ◌-◌, ◌*◌, ◌/◌, ◌%◌, ◌^◌, ◌<◌, ◌≤◌, Bool, false, eqb, List, map, length, get_or, sym, refl, ap, ◌∙◌, subst, ⊎_elim, mod-lt, mul_comm, arith, pow_pos}
+use Rattle.std.proofs.Common.{◌≡◌, ℕ, ◌+◌, ◌-◌, ◌*◌, ◌/◌, ◌%◌, ◌^◌, ◌<◌, ◌≤◌, false, eqb, List, map, get_or, sym, ap, ◌∙◌, subst, ⊎_elim, mod-lt, arith, pow_pos}
 use lib.Bits.{bit_or}
 use lib.Pow.{field, mod-mod-pow}
 use Rattle.std.specs.List.{range_with_len}

@@ -1,8 +1,8 @@
 -- What is read is a row exactly if the words begin with the words of a list of numbers. Assumes nothing.
-use Rattle.std.proofs.Common.{◌≡◌, ℕ, suc, ◌+◌, ◌-◌, ◌*◌, ◌/◌, ◌^◌, ◌<◌, ◌≤◌, Bool, true, false, List, [], ◌∷◌, ◌++◌, length, get_or, take, drop, Ok, Result, sym, refl, ap, ◌∙◌, subst, arith}
+use Rattle.std.proofs.Common.{◌≡◌, ℕ, suc, ◌+◌, ◌*◌, ◌^◌, ◌<◌, ◌≤◌, Bool, true, false, List, [], ◌∷◌, ◌++◌, length, get_or, take, drop, Ok, Result, sym, refl, ap, ◌∙◌, subst, arith}
 use Rattle.std.proofs.lemmas.List.FromFn.{length-map-range_with_len}
 use Rattle.std.proofs.lemmas.List.{length-append, get_or-take, get_or-drop, get_or_past, take_at}
-use Rattle.bits.specs.Words.{bit_at, bits_in, number_of, words_for, packed_bits, spare_zero}
+use Rattle.bits.specs.Words.{number_of, words_for, packed_bits, spare_zero}
 use Rattle.bits.proofs.Packed.{bit_packed}
 use Rattle.bits.proofs.Spare.{spare_clear}
 use Rattle.bits.proofs.SpareWords.{packed_spare}

@@ -1,11 +1,9 @@
 -- What the faults of a list of quads, place by place, come to for the whole. Assumes nothing.
-use Rattle.std.proofs.Common.{◌≡◌, ℕ, ◌+◌, ◌-◌, ◌<◌, ◌≤◌, Bool, true, false, cond, not, ◌&&◌, ◌||◌, ltb, ◌⊎◌, List, length, get_or, Some, None, sym, refl, ap, ◌∙◌, subst, inl, inr, ⊎_elim, arith}
+use Rattle.std.proofs.Common.{◌≡◌, ℕ, ◌+◌, ◌-◌, ◌<◌, true, false, cond, ltb, List, length, get_or, Some, sym, ap, ◌∙◌, subst, ⊎_elim, arith}
 use Rattle.std.proofs.lemmas.Bool.{and_parts, and_from, and_left, and_right, or_parts, or_from, or_left, or_right, or_cases, not-true, not-false, cond-true, cond-false, lt-ltb, both_ways, cases_Bool, not_from_true, not_from_false}
-use Rattle.ordered.specs.Lists.{each, first_place}
-use Rattle.ordered.specs.Order.{strictly_ascends}
 use Rattle.ordered.proofs.Lists.{each_place, each_from_places, chained_place, chained_from_places, no_place, some_place}
 use Rattle.quads.specs.Quads.{has_ids, quad_below}
-use Rattle.quads.specs.PlainLists.{is_plain, rises_at, at_fault, verdict_at, checked, Verdict, nowhere}
+use Rattle.quads.specs.PlainLists.{is_plain, rises_at, at_fault, verdict_at, checked, nowhere}
 use Rattle.quads.specs.PlainLists.Verdict.{accepted, refused}
 use Rattle.quads.specs.declared.quad.Quad.{Quad}
 

@@ -1,14 +1,14 @@
 -- What moving a mark leaves of the quads of a listing. Assumes nothing.
-use Rattle.std.proofs.Common.{◌≡◌, ℕ, suc, ◌+◌, ◌<◌, ◌≤◌, Bool, true, false, cond, not, ◌&&◌, ◌||◌, ltb, leb, ◌⊎◌, List, [], ◌∷◌, length, Some, None, filter, sym, refl, ap, ◌∙◌, subst, inl, inr, ⊎_elim, arith}
-use Rattle.std.proofs.lemmas.Bool.{and_parts, cases_Bool, cases_order, both_ways, ltb-true, ltb-false, lt-ltb, le-ltb, leb-true, not-true, not-false, not_from_true, not_from_false}
+use Rattle.std.proofs.Common.{◌≡◌, ℕ, ◌+◌, ◌<◌, ◌≤◌, Bool, true, false, not, ◌&&◌, ltb, leb, List, [], ◌∷◌, Some, None, filter, sym, refl, ap, ◌∙◌, subst, ⊎_elim, arith}
+use Rattle.std.proofs.lemmas.Bool.{and_parts, cases_Bool, cases_order, ltb-true, ltb-false, lt-ltb, le-ltb, leb-true, not_from_true, not_from_false}
 use Rattle.ordered.specs.Lists.{each, foremost}
 use Rattle.ordered.specs.Order.{strictly_ascends}
-use Rattle.ordered.proofs.Kept.{kept_yes, kept_no}
+use Rattle.ordered.proofs.Kept.{kept_yes}
 use Rattle.ordered.proofs.Sorted.{sorted, sorted_strictly, sorted_kept, kept_all, kept_same, kept_above, kept_none_below, each_kept, each_weaker}
 use Rattle.quads.specs.Quads.{is_id, has_ids, below_or, quad_below}
-use Rattle.quads.specs.QuadOrder.{quad_order, below_or_cases, below_or_less, below_or_equal}
+use Rattle.quads.specs.QuadOrder.{quad_order, below_or_less}
 use Rattle.quads.specs.Listings.{Listing, matching, not_below, first_from}
-use Rattle.quads.specs.Marks.{lowest, right_after, between}
+use Rattle.quads.specs.Marks.{right_after, between}
 use Rattle.quads.specs.declared.quad.Quad.{Quad}
 use Rattle.quads.specs.declared.pattern.Pattern.{Pattern}
 

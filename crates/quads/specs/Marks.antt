@@ -1,5 +1,5 @@
 -- Marks: where a search begins. Assumes nothing.
-use Rattle.std.specs.Prelude.{ℕ, ◌+◌, List, filter}
+use Rattle.std.specs.Prelude.{◌+◌, List, filter}
 use Rattle.quads.specs.Quads.{quad_below}
 use Rattle.quads.specs.Listings.{not_below}
 use Rattle.quads.specs.declared.quad.Quad.{Quad}

@@ -1,6 +1,5 @@
 -- Rows of bits by their kind: their words, what reading answers, and what a view of either kind means. Assumes nothing.
-use Rattle.std.specs.Prelude.{◌≡◌, ℕ, ◌≤◌, Bool, List, ◌++◌, length, Result}
-use Rattle.bitmaps.specs.declared.fault.BitsFault.{BitsFault}
+use Rattle.std.specs.Prelude.{◌≡◌, ℕ, ◌≤◌, Bool, List, ◌++◌, length}
 use Rattle.bitmaps.specs.PlainMeaning.{plain_bits}
 use Rattle.bitmaps.specs.PlainRows.{plain_words, plain_read, bits_read}
 use Rattle.runs.specs.RunMeaning.{run_bits}

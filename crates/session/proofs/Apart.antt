@@ -1,15 +1,14 @@
 -- The third part of the law from the second: a cursor's answers hang on the calls that name it alone. Assumes nothing.
-use Rattle.std.proofs.Common.{◌≡◌, ℕ, Bool, true, false, cond, ◌&&◌, eqb, ◌⊎◌, List, [], ◌∷◌, map, filter, Option, sym, refl, ap, ◌∙◌, subst, ⊎_elim, arith}
-use Rattle.std.proofs.lemmas.Bool.{and_parts, and_left, and_from, both_ways, cases_Bool, cond-false, eqb-true}
+use Rattle.std.proofs.Common.{◌≡◌, ℕ, true, false, ◌&&◌, eqb, [], ◌∷◌, Option, sym, refl, ap, ◌∙◌, subst, ⊎_elim, arith}
+use Rattle.std.proofs.lemmas.Bool.{and_parts, and_left, both_ways, cases_Bool, cond-false, eqb-true}
 use Rattle.ordered.specs.Lists.{each}
 use Rattle.ordered.proofs.Kept.{kept_yes, kept_no}
 use Rattle.ordered.proofs.Sorted.{kept_passes}
 use Rattle.quads.specs.Listings.{Listing}
 use Rattle.session.specs.Asks.{tried}
-use Rattle.session.specs.Histories.{Event, History, Opening, granted, after_granted, after_call, opening_of, names, on, calls}
+use Rattle.session.specs.Histories.{History, Opening, granted, after_granted, after_call, opening_of, names, on, calls}
 use Rattle.session.specs.Law.{due_in, Due, Answered}
 use Rattle.session.specs.Outcomes.{Outcome}
-use Rattle.session.specs.declared.call.Ask.{Ask}
 use Rattle.session.specs.declared.call.Call.{Call}
 use Rattle.session.specs.declared.call.Call.TheVariants.{On, Tally, Roll}
 

@@ -1,22 +1,22 @@
 -- A cursor that stands as its opening tells answers what is due, and stands so after the call too. Assumes nothing.
-use Rattle.std.proofs.Common.{◌≡◌, ℕ, zero, suc, ◌+◌, ◌<◌, ◌≤◌, min, Bool, true, false, cond, not, ◌&&◌, ◌||◌, eqb, ltb, ◌⊎◌, List, [], ◌∷◌, ◌++◌, length, Some, None, filter, Option, sym, refl, ap, ◌∙◌, subst, inl, inr, ⊎_elim, arith, length-append}
-use Rattle.std.proofs.lemmas.Bool.{cases_Bool, cond-true, cond-false, le-ltb, ltb-true, not_from_false}
+use Rattle.std.proofs.Common.{◌≡◌, ℕ, ◌+◌, Bool, true, false, cond, not, List, [], ◌∷◌, length, Some, None, filter, Option, sym, refl, ap, ◌∙◌, subst, ⊎_elim, arith, length-append}
+use Rattle.std.proofs.lemmas.Bool.{cases_Bool, cond-true, cond-false, ltb-true, not_from_false}
 use Rattle.ordered.specs.Lists.{each, foremost}
 use Rattle.ordered.specs.Order.{strictly_ascends}
 use Rattle.ordered.proofs.Sorted.{sorted, kept_all, each_weaker}
 use Rattle.quads.specs.Counts.{capped}
-use Rattle.quads.specs.Quads.{has_ids, below_or, quad_below, same_quad}
+use Rattle.quads.specs.Quads.{has_ids, quad_below, same_quad}
 use Rattle.quads.specs.QuadOrder.{quad_order, below_or_cases}
 use Rattle.quads.specs.Listings.{Listing, matching, not_below, first_from}
 use Rattle.quads.specs.Marks.{lowest, right_after, between}
 use Rattle.quads.specs.declared.quad.Quad.{Quad}
 use Rattle.quads.specs.declared.pattern.Pattern.{Pattern}
 use Rattle.quads.proofs.Marks.{first_none, first_some, not_below-sorted, not_below-right_after}
-use Rattle.session.specs.Cursors.{closed, opened_at, advanced, sought_outcome, sought, outcome_in, after_in, cursor_outcome, cursor_after}
+use Rattle.session.specs.Cursors.{opened_at, advanced, cursor_outcome, cursor_after}
 use Rattle.session.specs.Histories.{gives, ends, seeks, Opening, granted, stepped, after_granted, given, jumped, left, newly_jumped, has_ended, mark_of}
 use Rattle.session.specs.Keeps.{Waits, Finished, StandsIn, Stands}
 use Rattle.session.specs.Law.{due_in}
-use Rattle.session.specs.Outcomes.{Outcome, opened, gave, ended, counted, refused, gave_or}
+use Rattle.session.specs.Outcomes.{Outcome, gave, ended, counted, refused, gave_or}
 use Rattle.session.specs.declared.call.Ask.{Ask}
 use Rattle.session.specs.declared.call.Ask.TheVariants.{Open, Next, Seek, Left, Close}
 use Rattle.session.specs.declared.cursor.Cursor.{Cursor}

@@ -1,9 +1,9 @@
 -- The first part of the law from the second: what the given and the left quads of an opening are to each other.
 -- Assumes nothing.
-use Rattle.std.proofs.Common.{◌≡◌, ℕ, zero, suc, Bool, true, false, cond, not, ◌&&◌, ◌||◌, eqb, ltb, ◌⊎◌, List, [], ◌∷◌, ◌++◌, drop, Some, None, filter, Option, sym, refl, ap, ◌∙◌, subst, inl, inr, ⊎_elim, arith}
-use Rattle.std.proofs.lemmas.Bool.{and_parts, and_from, or_left, or_right, or_from, both_ways, cases_Bool, cond-true, cond-false, eqb-true, not-true, not_from_true, not_from_false}
+use Rattle.std.proofs.Common.{◌≡◌, ℕ, zero, suc, Bool, true, false, cond, not, ◌&&◌, ◌||◌, eqb, ltb, List, [], ◌∷◌, ◌++◌, drop, Some, None, filter, Option, sym, refl, ap, ◌∙◌, subst, ⊎_elim, arith}
+use Rattle.std.proofs.lemmas.Bool.{and_parts, and_from, or_left, or_right, both_ways, cases_Bool, cond-true, cond-false, eqb-true}
 use Rattle.ordered.specs.Lists.{each, foremost}
-use Rattle.ordered.specs.Order.{chained, strictly_ascends}
+use Rattle.ordered.specs.Order.{strictly_ascends}
 use Rattle.ordered.proofs.Sorted.{sorted, strictly_sorted, sorted_kept, each_weaker, each_kept, each_append, each_both, kept_passes}
 use Rattle.quads.specs.Quads.{has_ids, quad_below, same_quad}
 use Rattle.quads.specs.QuadOrder.{quad_order}
@@ -11,10 +11,10 @@ use Rattle.quads.specs.Listings.{Listing, matching}
 use Rattle.quads.specs.declared.quad.Quad.{Quad}
 use Rattle.quads.specs.declared.pattern.Pattern.{Pattern}
 use Rattle.quads.proofs.Marks.{matching-sorted}
-use Rattle.session.specs.Histories.{Event, History, gives, ends, seeks, Opening, granted, next_tells, stepped, after_granted, after_call, opening_of, has, given, jumped, left, has_ended}
+use Rattle.session.specs.Histories.{History, gives, ends, seeks, Opening, granted, next_tells, stepped, after_granted, after_call, opening_of, has, given, jumped, left, has_ended}
 use Rattle.session.specs.Law.{due_in, Due, Answered, Listed, Law}
 use Rattle.session.specs.Asks.{asks_only_ids, tried}
-use Rattle.session.specs.Outcomes.{Outcome, opened, gave, ended, counted, rolled, refused, gave_or}
+use Rattle.session.specs.Outcomes.{Outcome, gave, ended, refused, gave_or}
 use Rattle.session.specs.declared.call.Ask.{Ask}
 use Rattle.session.specs.declared.call.Ask.TheVariants.{Open, Next, Seek, Left, Close}
 use Rattle.session.specs.declared.call.Call.{Call}

@@ -1,16 +1,12 @@
 -- What one more call leaves of an opening. Assumes nothing.
-use Rattle.std.proofs.Common.{◌≡◌, ℕ, suc, ◌+◌, Bool, true, false, cond, not, ◌&&◌, ◌||◌, eqb, ◌⊎◌, List, [], ◌∷◌, ◌++◌, length, filter, sym, refl, ap, ◌∙◌, subst, inl, inr, ⊎_elim, arith, length-append}
+use Rattle.std.proofs.Common.{◌≡◌, ℕ, Bool, true, false, not, ◌&&◌, ◌||◌, eqb, List, [], ◌∷◌, ◌++◌, filter, sym, refl, ap, ◌∙◌, subst, ⊎_elim}
 use Rattle.std.proofs.lemmas.Bool.{and_parts, and_from, and_left, and_right, cases_Bool, both_ways, eqb-true, eq-eqb, not-true, not_from_true, not_from_false}
-use Rattle.ordered.specs.Lists.{each}
-use Rattle.ordered.specs.Order.{TotalOrder}
 use Rattle.ordered.proofs.Kept.{kept_yes, kept_no}
 use Rattle.ordered.proofs.Sorted.{sorted, kept_all, kept_same, kept_within, each_weaker}
 use Rattle.quads.specs.Quads.{quad_below, same_quad}
 use Rattle.quads.specs.QuadOrder.{quad_order}
 use Rattle.quads.specs.Listings.{Listing, matching, not_below}
-use Rattle.quads.specs.Marks.{between}
 use Rattle.quads.specs.declared.quad.Quad.{Quad}
-use Rattle.quads.specs.declared.pattern.Pattern.{Pattern}
 use Rattle.session.specs.Histories.{Step, gives, ends, seeks, Opening, has, given, jumped, left}
 
 -- quads by their numbers

@@ -1,14 +1,13 @@
 -- The open cursors up to a number, as a loop over the cursors meets them. Assumes nothing.
-use Rattle.std.proofs.Common.{◌≡◌, ℕ, zero, suc, ◌+◌, ◌-◌, ◌<◌, ◌≤◌, Bool, true, false, cond, ◌&&◌, eqb, ◌⊎◌, List, [], ◌∷◌, ◌++◌, map, length, take, drop, set, filter, sym, refl, ap, ◌∙◌, subst, inl, inr, ⊎_elim, add-one, arith, length-append}
+use Rattle.std.proofs.Common.{◌≡◌, ℕ, zero, suc, ◌+◌, ◌<◌, ◌≤◌, Bool, true, false, cond, eqb, ◌⊎◌, List, [], ◌∷◌, ◌++◌, length, take, drop, set, filter, sym, refl, ap, ◌∙◌, subst, inl, inr, ⊎_elim, add-one, arith, length-append}
 use Rattle.std.specs.List.{range_with_len}
 use Rattle.std.proofs.lemmas.List.FromFn.{map-range_with_len_more}
 use Rattle.std.proofs.lemmas.List.Elements.{filter-append}
 use Rattle.std.proofs.lemmas.List.{map-id, append-nil, take_more_set, drop-set-lt, drop-drop}
 use Rattle.std.proofs.lemmas.List.Sums.{sum_by_push}
 use Rattle.std.proofs.lemmas.Bool.{cond-true, cond-false, cases_Bool, cases_order, cases_lt, both_ways, eq-eqb, ne_eqb, and_left, le-ltb}
-use Rattle.session.specs.Rolls.{is_open, is_open_at, open_cursors}
+use Rattle.session.specs.Rolls.{is_open_at, open_cursors}
 use Rattle.session.specs.Outcomes.{occurrences}
-use Rattle.session.specs.Tables.{cursor_at}
 use Rattle.session.specs.declared.cursor.Table.{Table}
 
 module _ (test : ℕ → Bool) where

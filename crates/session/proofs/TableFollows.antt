@@ -1,5 +1,5 @@
 -- A session that keeps to a history answers what is due, and keeps to the history with the call added. Assumes nothing.
-use Rattle.std.proofs.Common.{◌≡◌, ℕ, zero, suc, ◌+◌, ◌<◌, ◌≤◌, Bool, true, false, cond, not, ◌&&◌, ◌||◌, eqb, ltb, ◌⊎◌, List, [], ◌∷◌, ◌++◌, length, get_or, set, replicate, is_some, Some, None, Ok, Err, Option, Result, sym, refl, ap, ◌∙◌, subst, inl, inr, ⊎_elim, add-zero, arith}
+use Rattle.std.proofs.Common.{◌≡◌, ℕ, ◌+◌, ◌<◌, ◌≤◌, Bool, true, false, cond, ◌&&◌, eqb, ltb, List, [], ◌∷◌, length, get_or, set, is_some, Some, None, Ok, Err, Option, Result, sym, refl, ap, ◌∙◌, subst, ⊎_elim, add-zero, arith}
 use Rattle.std.specs.List.{range_with_len}
 use Rattle.std.proofs.lemmas.List.{set-get_or, get_or-set_same, get_or-set_other, get_or-replicate, length-set, length-take-le}
 use Rattle.std.proofs.lemmas.Bool.{cases_Bool, cases_eq, cond-true, cond-false, ltb-true, ltb-false, eq-eqb, ne_eqb, and_left, and_right}
@@ -11,12 +11,12 @@ use Rattle.quads.specs.Listings.{Listing, first_from}
 use Rattle.quads.specs.declared.quad.Quad.{Quad}
 use Rattle.quads.specs.declared.pattern.Pattern.{Pattern}
 use Rattle.session.specs.Cursors.{closed, outcome_in, after_in, cursor_outcome, cursor_after}
-use Rattle.session.specs.Histories.{Event, History, Opening, granted, tells, given, after_granted, after_call, opening_of, given_since, is_open_in}
-use Rattle.session.specs.Keeps.{Waits, Finished, StandsIn, Stands, Agrees, Keeps, Follows}
+use Rattle.session.specs.Histories.{Event, History, Opening, granted, tells, given, after_granted, opening_of, given_since, is_open_in}
+use Rattle.session.specs.Keeps.{StandsIn, Stands, Agrees, Keeps, Follows}
 use Rattle.session.specs.Law.{due_in, Due, DueRoll, number_open}
-use Rattle.session.specs.Outcomes.{Outcome, opened, gave, ended, counted, rolled, refused, refusal_number, of_count, of_roll, gave_or, occurrences}
+use Rattle.session.specs.Outcomes.{Outcome, counted, refused, refusal_number, of_count, of_roll, gave_or}
 use Rattle.session.specs.Rolls.{is_open, is_open_at, open_cursors, roll_outcome, RollWrote}
-use Rattle.session.specs.Asks.{asks_only_ids, tried}
+use Rattle.session.specs.Asks.{asks_only_ids}
 use Rattle.session.specs.Tables.{new_table, cursor_at, tallied, ask_outcome, asked, ask_after}
 use Rattle.session.specs.declared.call.Ask.{Ask}
 use Rattle.session.specs.declared.call.Ask.TheVariants.{Open, Next, Seek, Left, Close}

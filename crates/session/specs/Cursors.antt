@@ -1,5 +1,5 @@
 -- What a cursor answers and what it is then, by its state and what is asked of it. Assumes nothing.
-use Rattle.std.specs.Prelude.{ℕ, ◌+◌, cond, length, Some, None, Option}
+use Rattle.std.specs.Prelude.{◌+◌, cond, length, Some, None, Option}
 use Rattle.quads.specs.Counts.{capped}
 use Rattle.quads.specs.Quads.{quad_below}
 use Rattle.quads.specs.Listings.{Listing, matching, not_below, first_from}

@@ -4,7 +4,7 @@ use Rattle.std.specs.Prelude.{◌≡◌, ℕ, ◌<◌, true, false, [], ◌∷�
 use Rattle.quads.specs.Counts.{capped}
 use Rattle.quads.specs.Listings.{Listing, matching, not_below}
 use Rattle.quads.specs.declared.quad.Quad.{Quad}
-use Rattle.session.specs.Histories.{Event, History, Opening, opening_of, given, left, has_ended, mark_of, given_since}
+use Rattle.session.specs.Histories.{History, Opening, opening_of, given, left, has_ended, mark_of, given_since}
 use Rattle.session.specs.Law.{Due, Law}
 use Rattle.session.specs.Outcomes.{Outcome}
 use Rattle.session.specs.Tables.{cursor_at}

@@ -1,14 +1,13 @@
 -- The session law: what a host is promised of any use of a session. Assumes nothing.
-use Rattle.std.specs.Prelude.{◌≡◌, ℕ, ◌<◌, ◌≤◌, Bool, true, false, cond, not, List, [], ◌∷◌, length, drop, Some, None, filter, Option}
+use Rattle.std.specs.Prelude.{◌≡◌, ℕ, ◌<◌, ◌≤◌, true, cond, not, [], ◌∷◌, length, drop, Some, None, filter, Option}
 use Rattle.std.specs.List.{range_with_len}
 use Rattle.ordered.specs.Lists.{each, foremost}
 use Rattle.ordered.specs.Order.{strictly_ascends}
 use Rattle.quads.specs.Counts.{capped}
 use Rattle.quads.specs.Quads.{quad_below}
 use Rattle.quads.specs.Listings.{Listing, matching}
-use Rattle.quads.specs.declared.quad.Quad.{Quad}
 use Rattle.session.specs.Asks.{tried}
-use Rattle.session.specs.Histories.{Event, History, Opening, opening_of, has, given, jumped, left, newly_jumped, has_ended, mark_of, given_since, is_open_in, on, calls}
+use Rattle.session.specs.Histories.{History, Opening, opening_of, has, given, jumped, left, newly_jumped, has_ended, mark_of, given_since, is_open_in, on, calls}
 use Rattle.session.specs.Outcomes.{Outcome, opened, gave, ended, counted, rolled, refused, gave_or, occurrences}
 use Rattle.session.specs.declared.call.Ask.{Ask}
 use Rattle.session.specs.declared.call.Ask.TheVariants.{Open, Next, Seek, Left, Close}

@@ -1,5 +1,5 @@
 -- A roll into the front of a buffer of eight entries. Assumes nothing.
-use Rattle.std.proofs.Common.{◌≡◌, ℕ, ◌<◌, ◌≤◌, min, true, false, cond, ltb, ◌⊎◌, List, [], ◌∷◌, ◌++◌, length, take, drop, replicate, count_by, filter, sym, refl, ap, ◌∙◌, subst, ⊎_elim, arith}
+use Rattle.std.proofs.Common.{◌≡◌, ℕ, ◌≤◌, min, true, ltb, List, ◌∷◌, ◌++◌, length, take, drop, sym, ap, ◌∙◌, subst, ⊎_elim, arith}
 use Rattle.std.specs.List.{range_with_len}
 use Rattle.std.proofs.lemmas.List.FromFn.{length-range_with_len}
 use Rattle.std.proofs.lemmas.List.{take-append-le, drop-append-le}
@@ -9,8 +9,8 @@ use Rattle.ordered.specs.Lists.{each}
 use Rattle.ordered.specs.Order.{strictly_ascends}
 use Rattle.quads.specs.Quads.{has_ids, quad_below}
 use Rattle.quads.specs.Listings.{Listing}
-use Rattle.session.specs.Histories.{Event, History, opening_of, given_since, is_open_in}
-use Rattle.session.specs.Keeps.{Keeps, Follows}
+use Rattle.session.specs.Histories.{History, opening_of, given_since, is_open_in}
+use Rattle.session.specs.Keeps.{Follows}
 use Rattle.session.specs.Law.{DueRoll, number_open}
 use Rattle.session.specs.Outcomes.{Outcome, opened, gave, ended, counted, rolled, refused}
 use Rattle.session.specs.Rolls.{roll_outcome, open_cursors}

@@ -4,12 +4,10 @@ use Rattle.std.specs.List.{AllByRecursion as All}
 use Rattle.std.proofs.ByRecursion.{All-push}
 use Rattle.std.proofs.lemmas.List.{map-append, map-set, reverse-append, take_more_set, get_or-map, set-get_or}
 use Rattle.quads.specs.Listings.{Listing}
-use Rattle.session.specs.Histories.{Event, History}
 use Rattle.session.specs.Keeps.{Keeps, Follows}
 use Rattle.quads.specs.declared.pattern.Place.TheVariants.{Any}
 use Rattle.session.specs.declared.call.Ask.TheVariants.{Open}
 use Rattle.session.specs.declared.call.Call.TheVariants.{On}
-use Rattle.session.specs.declared.call.Call.{Call}
 use Rattle.session.specs.declared.cursor.Table.{Table}
 use Rattle.transcript.specs.Transcripts.{outcome_of, RestKept, event_of, history_of, calls_of}
 use Rattle.transcript.specs.declared.records.Record.{Record}

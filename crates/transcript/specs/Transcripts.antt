@@ -1,5 +1,5 @@
 -- What a transcript, a list of calls with their answers, tells. Assumes nothing.
-use Rattle.std.specs.Prelude.{◌≡◌, ℕ, List, map, reverse, take, drop, replicate}
+use Rattle.std.specs.Prelude.{◌≡◌, List, map, reverse, take, drop, replicate}
 use Rattle.session.specs.Histories.{Event, History}
 use Rattle.session.specs.Outcomes.{Outcome, opened, gave, ended, counted, rolled, refused, refusal_number}
 use Rattle.session.specs.declared.call.Call.{Call}

@@ -1,4 +1,4 @@
-use Rattle.std.proofs.Common.{◌≡◌, ℕ, ◌+◌, ◌-◌, ◌*◌, ◌/◌, ◌<◌, ◌≤◌, Bool, true, false, List, length, get_or, take, drop, Ok, Err, sym, refl, ap, ◌∙◌, arith}
+use Rattle.std.proofs.Common.{◌≡◌, ℕ, ◌+◌, ◌-◌, ◌≤◌, Bool, true, false, List, length, get_or, take, drop, Ok, Err, sym, ap, ◌∙◌, arith}
 use Rattle.bits.specs.BareMeaning.{bare_bits, bare_words}
 use Rattle.bits.specs.Words.{bits_in, held, words_for, spare_zero}
 use Rattle.bits.specs.declared.bare.BareBits.{BareBits}

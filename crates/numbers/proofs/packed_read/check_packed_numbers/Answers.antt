@@ -1,4 +1,4 @@
-use Rattle.std.proofs.Common.{◌≡◌, ℕ, ◌+◌, ◌-◌, ◌*◌, ◌<◌, ◌≤◌, Bool, true, false, List, length, get_or, take, drop, Ok, Err, sym, refl, ap, ◌∙◌, subst, ⊎_elim, arith}
+use Rattle.std.proofs.Common.{◌≡◌, ℕ, ◌+◌, ◌-◌, ◌*◌, ◌≤◌, Bool, true, false, List, length, take, drop, Ok, Err, sym, ap, ◌∙◌, arith}
 use Rattle.std.proofs.lemmas.Bool.{and_left, and_right, lt-leb}
 use Rattle.bits.specs.Words.{bits_in, held, words_for, spare_zero}
 use Rattle.bits.specs.BareMeaning.{bare_bits, bare_words}
@@ -6,7 +6,7 @@ use Rattle.bits.specs.declared.bare.BareBits.{BareBits}
 use Rattle.bits.proofs.SpareTold.{spare_told}
 use Rattle.numbers.specs.NumberWords.{width_of, packed_room}
 use Rattle.numbers.specs.NumbersIn.{numbers_in, largest_of}
-use Rattle.numbers.specs.PackedNumberRows.{packed_read, in_range, count_of, width_in, content_words, numbers_packed}
+use Rattle.numbers.specs.PackedNumberRows.{packed_read, count_of, width_in, content_words, numbers_packed}
 use Rattle.numbers.specs.declared.fault.NumbersFault.TheVariants.{Short, TooManyNumbers, WidthOutOfRange, SpareBitSet, WrongContent}
 use Rattle.numbers.proofs.PackedReading.{content_cut, content_long, range_from, none_read, too_many, no_width, too_short, spare_set, too_wide, row_read}
 use Rattle.numbers.proofs.PackedRowLaws.{row_law, found-law}

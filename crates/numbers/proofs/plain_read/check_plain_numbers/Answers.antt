@@ -1,4 +1,4 @@
-use Rattle.std.proofs.Common.{◌≡◌, ℕ, ◌+◌, ◌-◌, ◌<◌, ◌≤◌, Bool, true, false, List, length, get_or, take, drop, Ok, Err, sym, ap, ◌∙◌, arith}
+use Rattle.std.proofs.Common.{◌≡◌, ℕ, ◌+◌, ◌-◌, Bool, true, false, List, get_or, take, drop, Ok, Err, sym, ap, ◌∙◌, arith}
 use Rattle.numbers.specs.NumberWords.{each_below, plain_number_room}
 use Rattle.numbers.specs.PlainNumberRows.{plain_numbers_read, numbers_after}
 use Rattle.numbers.specs.declared.fault.NumbersFault.TheVariants.{Short, TooManyNumbers, WrongContent}

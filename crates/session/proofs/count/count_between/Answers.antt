@@ -1,5 +1,5 @@
-use Rattle.std.proofs.Common.{◌≡◌, ◌+◌, ◌<◌, List, length, sym, ap, ◌∙◌, subst, arith}
-use Rattle.quads.specs.Listings.{Listing, matching, not_below}
+use Rattle.std.proofs.Common.{◌≡◌, ◌+◌, ◌<◌, length, sym, subst, arith}
+use Rattle.quads.specs.Listings.{matching, not_below}
 use Rattle.quads.specs.Marks.{between}
 use Rattle.session.proofs.Counting.{first_graph, first_less, count_none, count_past, count_full, count_more}
 use Rattle.session.proofs.count.count_between.Goals as goal

@@ -1,8 +1,8 @@
-use Rattle.std.proofs.Common.{◌≡◌, ℕ, ◌+◌, ◌-◌, ◌*◌, ◌/◌, ◌<◌, ◌≤◌, min, ltb, length, get_or, sym, refl, ap, ◌∙◌, arith}
+use Rattle.std.proofs.Common.{◌≡◌, ◌+◌, ◌-◌, ◌*◌, ◌<◌, ltb, length, get_or, ap, ◌∙◌, arith}
 use Rattle.ordered.specs.Order.{ascends, first_not_below}
 use Rattle.ordered.specs.Lists.{first_place}
 use Rattle.bits.specs.Words.{bit_at}
-use Rattle.bitmaps.proofs.Blocks.{dir_bound, dir_ascends, next_past, next_within, first_in_block}
+use Rattle.bitmaps.proofs.Blocks.{dir_bound, dir_ascends, next_past, first_in_block}
 use Rattle.bitmaps.proofs.plain.PlainBits.first_from.Goals as goal
 
 pub overflow_add-more : goal.overflow_add-more

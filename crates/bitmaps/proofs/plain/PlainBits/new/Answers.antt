@@ -1,7 +1,7 @@
-use Rattle.std.proofs.Common.{◌≡◌, ℕ, ◌+◌, ◌-◌, ◌*◌, ◌/◌, ◌<◌, ◌≤◌, true, false, List, [], length, get_or, take, drop, Ok, sym, refl, ap, ◌∙◌, subst, arith}
+use Rattle.std.proofs.Common.{◌≡◌, ℕ, ◌+◌, ◌-◌, ◌*◌, [], length, get_or, take, drop, Ok, sym, refl, ap, ◌∙◌, arith}
 use Rattle.bits.specs.Words.{bit_at, bits_in, words_for}
 use Rattle.bitmaps.specs.Counts.{ones_of}
-use Rattle.bitmaps.specs.PlainRows.{plain_read, plain_room, blocks_for, bit_words, directory_words, bits_read}
+use Rattle.bitmaps.specs.PlainRows.{plain_read, blocks_for, bit_words, directory_words, bits_read}
 use Rattle.bits.proofs.Words.{bit_past}
 use Rattle.bitmaps.proofs.PlainReading.{bits_cut, directory_cut, read_facts, row_long, row_begun, row_spare, row_counts}
 use Rattle.bitmaps.proofs.PlainRowLaws.{read_law}

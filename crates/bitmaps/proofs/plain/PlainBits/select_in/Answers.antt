@@ -1,4 +1,4 @@
-use Rattle.std.proofs.Common.{◌≡◌, ℕ, ◌+◌, ◌-◌, ◌*◌, ◌/◌, ◌%◌, ◌^◌, ◌<◌, ◌≤◌, get_or, sym, ap, ◌∙◌, subst, arith}
+use Rattle.std.proofs.Common.{◌≡◌, ◌+◌, ◌*◌, ◌%◌, ◌^◌, ◌<◌, get_or, ◌∙◌, arith}
 use lib.Count.{ones, ones-le}
 use Rattle.bits.specs.Words.{bits_in}
 use Rattle.bits.proofs.Words.{bit_in_word, ones_in_word}

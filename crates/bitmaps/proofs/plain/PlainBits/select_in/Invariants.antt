@@ -1,4 +1,4 @@
-use Rattle.std.proofs.Common.{◌≡◌, ◌+◌, ◌*◌, ◌<◌, ◌≤◌}
+use Rattle.std.proofs.Common.{◌≡◌, ◌+◌, ◌*◌, ◌<◌}
 use Rattle.bitmaps.specs.Counts.{ones_of}
 use Rattle.bits.specs.Words.{bits_in}
 use Rattle.bitmaps.proofs.plain.PlainBits.select_in.Given as goal

@@ -1,7 +1,5 @@
-use Rattle.std.proofs.Common.{◌≡◌, ℕ, ◌+◌, ◌-◌, ◌*◌, ◌/◌, ◌%◌, ◌^◌, ◌<◌, ◌≤◌, get_or, sym, refl, ap, ◌∙◌, arith}
+use Rattle.std.proofs.Common.{◌≡◌, ◌/◌, ◌%◌, ◌^◌, ◌<◌, get_or, sym, refl, ◌∙◌, arith}
 use lib.Pow.{shr_le}
-use Rattle.bits.specs.Words.{bit_at}
-use Rattle.ordered.specs.Lists.{first_place}
 use Rattle.bitmaps.proofs.Following.{following_past, following_here, following_block, following_later}
 use Rattle.bitmaps.proofs.plain_bitmap.PlainBitsCountedBitmap.following.Goals as goal
 

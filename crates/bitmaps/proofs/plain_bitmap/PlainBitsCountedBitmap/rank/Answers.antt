@@ -1,6 +1,4 @@
-use Rattle.std.proofs.Common.{◌≡◌, min, sym, ap, ◌∙◌, arith}
-use Rattle.bitmaps.specs.Counts.{ones_of}
-use Rattle.bits.specs.Words.{bits_in}
+use Rattle.std.proofs.Common.{◌≡◌, min, ◌∙◌, arith}
 use Rattle.bitmaps.proofs.Following.{rank_bits}
 use Rattle.bitmaps.proofs.plain_bitmap.PlainBitsCountedBitmap.rank.Goals as goal
 

@@ -1,4 +1,4 @@
-use Rattle.std.proofs.Common.{◌≡◌, ℕ, ◌+◌, ◌-◌, ◌*◌, ◌/◌, ◌<◌, ◌≤◌, ltb, ◌⊎◌, length, get_or, sym, ap, ◌∙◌, inl, inr, ⊎_elim, arith}
+use Rattle.std.proofs.Common.{◌≡◌, ◌<◌, ◌≤◌, ltb, length, ap, ◌∙◌, inl, inr, arith}
 use Rattle.ordered.specs.Order.{ascends, first_not_below}
 use Rattle.bits.specs.Words.{bits_in}
 use Rattle.bitmaps.specs.Counts.{ones_of}

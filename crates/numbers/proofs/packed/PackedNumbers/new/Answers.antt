@@ -1,8 +1,8 @@
-use Rattle.std.proofs.Common.{◌≡◌, ℕ, ◌+◌, ◌-◌, ◌*◌, ◌<◌, ◌≤◌, List, length, get_or, take, drop, Ok, sym, ap, ◌∙◌, arith}
+use Rattle.std.proofs.Common.{◌≡◌, ℕ, ◌-◌, ◌*◌, List, length, take, drop, Ok, ap, ◌∙◌, arith}
 use Rattle.bits.specs.Words.{words_for}
 use Rattle.numbers.specs.NumbersIn.{numbers_in}
 use Rattle.numbers.specs.PackedNumberRows.{packed_read, packed_numbers_read, count_of, width_in, content_words}
-use Rattle.numbers.proofs.PackedReading.{RowRead, content_cut, content_long, read_facts}
+use Rattle.numbers.proofs.PackedReading.{content_cut, content_long, read_facts}
 use Rattle.numbers.proofs.PackedRowLaws.{reads_law}
 use Rattle.numbers.proofs.packed.PackedNumbers.new.Goals as goal
 

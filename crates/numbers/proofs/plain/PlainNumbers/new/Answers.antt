@@ -1,4 +1,4 @@
-use Rattle.std.proofs.Common.{◌≡◌, ℕ, ◌+◌, ◌-◌, ◌<◌, ◌≤◌, List, length, get_or, take, drop, Ok, sym, refl, ap, ◌∙◌, arith}
+use Rattle.std.proofs.Common.{◌≡◌, ℕ, ◌-◌, List, length, get_or, take, drop, Ok, ap, ◌∙◌, arith}
 use Rattle.numbers.specs.NumberWords.{each_below}
 use Rattle.numbers.specs.PlainNumberRows.{plain_numbers_read, numbers_after, numbers_read}
 use Rattle.numbers.proofs.PlainNumberLaws.{numbers_cut, read_facts, after_long, reads_law}

@@ -1,4 +1,4 @@
-use Rattle.std.proofs.Common.{◌^◌, ◌<◌, ltb, length, get_or, sym, arith}
+use Rattle.std.proofs.Common.{◌^◌, ◌<◌, ltb, get_or, sym, arith}
 use Rattle.std.proofs.lemmas.Option.{slice_get-get_or, slice_get_past}
 use Rattle.std.proofs.lemmas.Bool.{ltb-true}
 use Rattle.ordered.proofs.Lists.{each_place}

@@ -1,4 +1,4 @@
-use Rattle.std.proofs.Common.{◌≡◌, List, ◌++◌, ap, ◌∙◌}
+use Rattle.std.proofs.Common.{◌≡◌, ◌++◌, ap, ◌∙◌}
 use Rattle.bitmaps.specs.PlainMeaning.{plain_bits}
 use Rattle.runs.specs.RunMeaning.{run_bits}
 use Rattle.runs.specs.RunWords.{run_words}

@@ -1,4 +1,4 @@
-use Rattle.std.proofs.Common.{◌≡◌, ◌+◌, [], ◌∷◌, length, sym, refl, ap, ◌∙◌, arith, length-append}
+use Rattle.std.proofs.Common.{◌≡◌, ◌+◌, [], ◌∷◌, length, sym, ap, ◌∙◌, arith, length-append}
 use Rattle.session.specs.Rolls.{is_open_at, open_cursors}
 use Rattle.session.proofs.Rolls.{upto, upto_yes, upto_no}
 use Rattle.session.proofs.cursor.Table.count_open.Goals as goal

@@ -1,8 +1,7 @@
-use Rattle.std.proofs.Common.{◌≡◌, ℕ, ◌+◌, ◌-◌, ◌<◌, ◌≤◌, true, [], ◌∷◌, ◌++◌, length, take, drop, set, sym, refl, ap, ◌∙◌, subst, arith, length-append}
-use Rattle.std.proofs.lemmas.List.{take_more_set, drop-set-lt, drop-drop}
+use Rattle.std.proofs.Common.{◌≡◌, ℕ, ◌+◌, ◌-◌, ◌<◌, ◌≤◌, true, [], ◌∷◌, length, sym, ap, ◌∙◌, subst, arith, length-append}
 use Rattle.session.specs.Rolls.{is_open_at, open_cursors}
 use Rattle.session.specs.declared.cursor.Table.{Table}
-use Rattle.session.proofs.Rolls.{upto, upto_yes, upto_no, upto_grows, wrote_yes, wrote_no}
+use Rattle.session.proofs.Rolls.{upto, upto_yes, upto_grows, wrote_yes, wrote_no}
 use Rattle.session.proofs.cursor.Table.write_open.Goals as goal
 use Rattle.session.proofs.cursor.Table.write_open.Goals.{then-is_open_at, else-is_open_at}
 

@@ -1,4 +1,4 @@
-use Rattle.std.proofs.Common.{◌≡◌, ◌≤◌, length, take, drop}
+use Rattle.std.proofs.Common.{◌≡◌, length, take, drop}
 use Rattle.session.specs.Rolls.{is_open_at}
 use Rattle.session.proofs.Rolls.{upto}
 use Rattle.session.proofs.cursor.Table.write_open.Given as goal
