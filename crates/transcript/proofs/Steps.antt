@@ -1,7 +1,7 @@
 -- One record more of a transcript. Assumes nothing.
 use Rattle.std.proofs.Common.{◌≡◌, ℕ, ◌+◌, ◌<◌, List, [], ◌∷◌, ◌++◌, map, reverse, length, get_or, take, set, sym, refl, ap, ◌∙◌, subst}
-use Rattle.std.specs.List.{AllByRecursion as All}
-use Rattle.std.proofs.ByRecursion.{All-push}
+use Rattle.std.specs.Prelude.{All}
+use Rattle.std.proofs.lemmas.List.Elements.{All-push}
 use Rattle.std.proofs.lemmas.List.{map-append, map-set, reverse-append, take_more_set, get_or-map, set-get_or}
 use Rattle.quads.specs.Listings.{Listing}
 use Rattle.session.specs.Keeps.{Keeps, Follows}

@@ -1,9 +1,8 @@
 // A session over a source, taken through lists of calls.
 ghost use Rattle.session.specs.Histories.{on, calls};
 ghost use Rattle.session.specs.Law.{Law};
-ghost use Rattle.std.specs.List.{AllByRecursion as All};
 ghost use Rattle.transcript.specs.Transcripts.{RestKept, history_of, calls_of};
-ghost use Rattle.std.specs.Prelude.{◌≡◌, ℕ};
+ghost use Rattle.std.specs.Prelude.{◌≡◌, ℕ, All};
 
 use crate::calls::make;
 use crate::records::Record;

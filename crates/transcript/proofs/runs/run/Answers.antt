@@ -1,5 +1,5 @@
 use Rattle.std.proofs.Common.{◌<◌, ◌≤◌, length, get_or, sym, refl, ◌∙◌, subst, arith}
-use Rattle.std.specs.List.{AllByRecursion as All}
+use Rattle.std.specs.Prelude.{All}
 use Rattle.std.proofs.lemmas.List.{take_all}
 use Rattle.session.specs.Keeps.{Keeps, Follows}
 use Rattle.session.specs.Law.{Law}
@@ -16,7 +16,7 @@ loop-record-init g c =
       subst (λ h. Keeps (means src.now) h c.attach-session.result.table) (sym history_none)
           (subst (λ s. Keeps (means s) _ c.attach-session.result.table) (sym c.attach-session.ensures.source) c.attach-session.ensures.law),
       refl,
-      tt,
+      λ k d l. absurd (omega arith),
     )
 
 pub loop-record-preserved : goal.loop-record-preserved

@@ -1,6 +1,6 @@
 use Rattle.std.proofs.Common.{◌≡◌, take}
 use Rattle.session.specs.Keeps.{Keeps}
-use Rattle.std.specs.List.{AllByRecursion as All}
+use Rattle.std.specs.Prelude.{All}
 use Rattle.transcript.specs.Transcripts.{RestKept, history_of, calls_of}
 use Rattle.transcript.proofs.runs.run.Given as goal
 
