@@ -1,2 +1,3 @@
 pub mod BareMeaning
+pub mod StoredRows
 pub mod Words

@@ -1,10 +1,10 @@
 // Making bare bits, and reading them.
 ghost use Rattle.bits.specs.BareMeaning.{bare_bits, bare_words};
 ghost use Rattle.bits.specs.Words.{bits_in, held, spare_zero};
-ghost use Rattle.std.specs.Prelude.{◌≡◌, length};
+ghost use Rattle.std.specs.Prelude.{◌≡◌, ◌↔◌, All, IsTrue, length};
 
 use crate::bare::BareBits;
-use crate::row::BitRow;
+use crate::row::Row;
 
 impl<'a> BareBits<'a> {
     // The first `len` bits of the words, or all of them where they are fewer.
@@ -25,33 +25,41 @@ impl<'a> BareBits<'a> {
     pub fn is_spare_zero(&self) -> bool
         ensures { result ≡ spare_zero (bare_words self.now) (length (bare_bits self.now)) }
     {
-        let last = self.len / 64;
-        if last >= self.words.len() {
-            return true;
-        }
-        if self.words[last] >> (self.len % 64) != 0 {
-            return false;
-        }
-        for word in last + 1..self.words.len() {
-            if self.words[word] != 0 {
-                return false;
-            }
-        }
-        true
+        is_zero_from(self.words, self.len)
     }
 }
 
-impl<'a> BitRow for BareBits<'a> {
-    ghost bits = { bare_bits };
+impl<'a> Row for BareBits<'a> {
+    type Item = bool;
+
+    ghost items = { bare_bits };
 
     fn len(&self) -> usize {
         self.len
     }
 
-    fn bit(&self, place: usize) -> Option<bool> {
+    fn get(&self, place: usize) -> Option<bool> {
         if place >= self.len {
             return None;
         }
         Some((self.words[place / 64] >> (place % 64)) & 1 == 1)
     }
+}
+
+// Whether each bit of the words from the place on is a zero.
+fn is_zero_from(words: &[u64], place: usize) -> bool
+    ensures { result ≡ spare_zero words.now place }
+{
+    let last = place / 64;
+    if last >= words.len() {
+        return true;
+    }
+    words[last] >> (place % 64) == 0 && are_zero(&words[last + 1..])
+}
+
+// Whether each word is zero.
+fn are_zero(words: &[u64]) -> bool
+    ensures { IsTrue result ↔ All (λ w. w ≡ 0) words.now }
+{
+    words.iter().all(|word| *word == 0)
 }

@@ -1,11 +1,13 @@
-// Bits in lent words.
+// Rows in lent words, and bits in them.
 #![tactic(auto)]
 
 mod bare;
 mod bare_row;
 mod row;
+mod stored;
 mod write_fault;
 
 pub use bare::BareBits;
-pub use row::BitRow;
+pub use row::Row;
+pub use stored::{MAX_LEN, StoredRow};
 pub use write_fault::WriteFault;

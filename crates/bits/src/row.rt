@@ -1,16 +1,18 @@
-// The trait of bit rows: whatever means a list of bits.
+// The trait of rows: whatever means a list of items, bits or numbers, and gives them by their places.
 ghost use Rattle.std.specs.List.{slice_get};
-ghost use Rattle.std.specs.Prelude.{◌≡◌, Bool, List, length};
+ghost use Rattle.std.specs.Prelude.{◌≡◌, List, length};
 
-pub trait BitRow {
-    // The bits of the row.
-    ghost bits: { Self → List Bool };
+pub trait Row {
+    type Item;
+
+    // The items of the row.
+    ghost items: { Self → List Self.Item };
 
     // How many they are.
     fn len(&self) -> usize
-        ensures { result ≡ length (bits self.now) };
+        ensures { result ≡ length (items self.now) };
 
-    // The bit at the place, counted from 0, or none past the end.
-    fn bit(&self, place: usize) -> Option<bool>
-        ensures { result ≡ slice_get (bits self.now) place };
+    // The item at the place, counted from 0, or none past the end.
+    fn get(&self, place: usize) -> Option<Self::Item>
+        ensures { result ≡ slice_get (items self.now) place };
 }

@@ -1,6 +1,7 @@
 -- Where the first entry not below a key stands, by the test at one place. Assumes nothing.
-use Rattle.std.proofs.Common.{◌≡◌, ℕ, zero, suc, ◌<◌, ◌≤◌, Bool, true, false, List, [], ◌∷◌, length, get_or, sym, refl, subst, ⊎_elim, arith}
+use Rattle.std.proofs.Common.{◌≡◌, ℕ, zero, suc, ◌<◌, ◌≤◌, Bool, true, false, List, [], ◌∷◌, length, get_or, sym, refl, ap, ◌∙◌, subst, ⊎_elim, arith}
 use Rattle.std.proofs.lemmas.Bool.{and_parts, cases_Bool, cond-true, cond-false, not-true}
+use Rattle.std.specs.List.Sorted.{IsPartitionPoint, IsPartitionedBy}
 use Rattle.ordered.specs.Order.{TotalOrder, ascends, first_not_below}
 
 module _ {A : Type 0} (below : A → A → Bool) where
@@ -14,6 +15,14 @@ module _ {A : Type 0} (below : A → A → Bool) where
       (λ t. omega (arith, cond-true (below x key) (suc (first_not_below below key xs)) 0 t))
       (λ f. omega (arith, cond-false (below x key) (suc (first_not_below below key xs)) 0 f))
       (cases_Bool (below x key))
+
+  -- where those below the key stand before a place and no others do, that is the place
+  pub place_parts : (key : A) (xs : List A) (i : ℕ) → i ≤ length xs → IsPartitionPoint (λ x. below x key ≡ true) (λ x. below x key ≡ false) xs i → i ≡ first_not_below below key xs
+  place_parts key [] i h p = omega arith
+  place_parts key (x ∷ xs) zero h p = sym (cond-false (below x key) _ 0 (p.1 0 x (omega arith) (omega arith)))
+  place_parts key (x ∷ xs) (suc i) h p =
+      ap suc (place_parts key xs i (omega arith) (λ k d l m. p.0 (suc k) d (omega arith) (omega arith), λ k d l m. p.1 (suc k) d (omega arith) (omega arith)))
+      ∙ sym (cond-true (below x key) _ 0 (p.0 0 x (omega arith) (omega arith)))
 
   pub place_length : (key : A) (xs : List A) → first_not_below below key xs ≤ length xs
   place_length key [] = omega arith
@@ -52,3 +61,12 @@ module _ {A : Type 0} (below : A → A → Bool) (order : TotalOrder below) wher
       let ih : i < first_not_below below key xs = place_past key xs i d (ascends_tail x xs a) (omega arith) e in
       let t : below x key ≡ true = first_below key x xs i d a (omega arith) e in
       omega (arith, cond-true (below x key) (suc (first_not_below below key xs)) 0 t)
+
+  -- no entry that is below the key comes after one that is not
+  pub parted_by_key : (key : A) (xs : List A) → ascends below xs ≡ true → IsPartitionedBy (λ x. below x key) xs
+  parted_by_key key xs a i j d l m b =
+      let past : j < first_not_below below key xs = place_past key xs j d a m b in
+      ⊎_elim
+      (λ t. t)
+      (λ f. let upto : first_not_below below key xs ≤ i = place_upto below key xs i d (omega arith) f in absurd (omega arith))
+      (cases_Bool (below (get_or xs i d) key))

@@ -22,16 +22,6 @@ impl<'a, T: Ordered> OrderedList<'a, T> {
         ensures within { result ≤ length self.now.entries.now }
         ensures place { ascends T.below self.now.entries.now ≡ true → result ≡ first_not_below T.below key.now self.now.entries.now }
     {
-        let mut low = 0;
-        let mut high = self.entries.len();
-        while low < high {
-            let middle = low + (high - low) / 2;
-            if self.entries[middle].is_below(key) {
-                low = middle + 1;
-            } else {
-                high = middle;
-            }
-        }
-        low
+        self.entries.partition_point(|entry| entry < key)
     }
 }

@@ -1,24 +1,12 @@
-use Rattle.std.proofs.Common.{sym, arith}
-use Rattle.ordered.proofs.Places.{place_length, place_upto, place_past}
+use Rattle.std.proofs.Common.{rules}
+use Rattle.ordered.proofs.Places.{place_parts, parted_by_key}
+use Rattle.std.proofs.lemmas.List.Sorted.{IsPartitionPoint-from_clause}
 use Rattle.ordered.proofs.list.OrderedList.first_not_below.Goals as goal
 
-pub loop-low-init : goal.loop-low-init
-loop-low-init g c =
-    (omega arith, omega arith, λ a. (omega arith, place_length g.T.Ordered.below c.args.key.now c.args.self.now.entries.now))
-
-pub loop-low-preserved-then-is_below : goal.loop-low-preserved-then-is_below
-loop-low-preserved-then-is_below g c = (
-  omega arith,
-  omega arith,
-  λ a.
-      let past = place_past g.T.Ordered.below g.T.Ordered.laws c.args.key.now c.args.self.now.entries.now _ _ a (omega arith) (sym c.if-is_below.ensures) in
-      (omega (arith, past), (c.loop-low.invariant.2 a).1),
-)
-
-pub loop-low-preserved : goal.loop-low-preserved
-loop-low-preserved g c = (
-  omega arith,
-  omega arith,
-  λ a.
-      ((c.loop-low.invariant.2 a).0, place_upto g.T.Ordered.below c.args.key.now c.args.self.now.entries.now _ _ (omega arith) (sym c.if-is_below.ensures)),
-)
+pub returns-clause-place : goal.returns-clause-place
+returns-clause-place g c a =
+    let below = g.T.Ordered.below in
+    let key = c.args.key.now in
+    let entries = c.args.self.now.entries.now in
+    let point = IsPartitionPoint-from_clause (λ x. below x key) entries _ c.partition_point.ensures.partitioned (parted_by_key below g.T.Ordered.laws key entries a) (λ a r q k. search (rules, g.met.T.Ordered.told)) in
+    place_parts below key entries _ c.partition_point.ensures.bound point
