@@ -70,3 +70,11 @@ module _ (qs : List Quad) where
       let z : (k : ℕ) → 0 + k ≡ k = λ k. omega arith in
       ap (verdict_at qs) (some_place (at_fault qs) 0 (length qs) i l (λ k m. subst (λ j. at_fault qs j ≡ false) (sym (z k)) (h k m)) (subst (λ j. at_fault qs j ≡ true) (sym (z i)) f) ∙ ap Some (z i))
       ∙ ap (λ m. refused m i) e
+
+  -- a list that checking refuses is not plain
+  pub not_plain_from_refused : (number place : ℕ) → checked qs ≡ refused number place → is_plain qs ≡ false
+  not_plain_from_refused number place r =
+      ⊎_elim
+      (λ plain. let a : accepted ≡ refused number place = sym (checked_sound (sound_from_plain plain)) ∙ r in cc)
+      (λ f. f)
+      (cases_Bool (is_plain qs))

@@ -1,3 +1,4 @@
+pub mod Derived
 pub mod Faults
 pub mod Search
 pub mod Spans

@@ -5,5 +5,6 @@ pub mod Patterns
 pub mod PlainLists
 pub mod PlainMeaning
 pub mod QuadOrder
+pub mod QuadTold
 pub mod Quads
 pub mod Spans

@@ -3,7 +3,6 @@ ghost use Rattle.quads.specs.PlainLists.{is_plain, verdict, checked, rises_at, r
 ghost use Rattle.std.specs.Prelude.{◌≡◌, ◌<◌, length, is_ok};
 
 use crate::quad::Quad;
-use ordered::Ordered;
 
 // Why quads are no plain list: the place of the first quad at fault, counted from 0.
 #[derive(Clone, Copy, PartialEq, Eq, Debug)]
@@ -30,8 +29,7 @@ impl ListRefusal {
         ensures { result ≡ refusal_place self }
     {
         match self {
-            ListRefusal::NotAnId(place) => place,
-            ListRefusal::NotAscending(place) => place,
+            ListRefusal::NotAnId(place) | ListRefusal::NotAscending(place) => place,
         }
     }
 }
@@ -57,5 +55,5 @@ fn rises_at(quads: &[Quad], place: usize) -> bool
     requires { place < length quads.now }
     ensures { result ≡ rises_at quads.now place }
 {
-    place == 0 || quads[place - 1].is_below(&quads[place])
+    place == 0 || quads[place - 1] < quads[place]
 }

@@ -5,27 +5,35 @@ ghost use Rattle.quads.specs.Listings.{Listing};
 ghost use Rattle.quads.specs.Quads.{has_ids, quad_below};
 ghost use Rattle.quads.specs.PlainLists.{listed};
 ghost use Rattle.quads.specs.Patterns.{matches};
-ghost use Rattle.quads.specs.PlainMeaning.{plain_means, plain_ascending, plain_ids};
+ghost use Rattle.quads.specs.PlainMeaning.{plain_means, plain_ascending, plain_ids, GivesPlain};
 ghost use Rattle.std.specs.Prelude.{◌≡◌, true, filter};
 
-use crate::check::check_plain;
+use crate::check::{ListRefusal, check_plain};
 use crate::pattern::Pattern;
 use crate::plain::PlainList;
 use crate::quad::{Mark, Quad};
 use crate::source::QuadSource;
-use ordered::{Ordered, OrderedList};
+use ordered::OrderedList;
+
+impl<'a> TryFrom<&'a [Quad]> for PlainList<'a> {
+    type Error = ListRefusal;
+
+    ghost try_from_gives = { λ quads res. GivesPlain quads.now res };
+
+    fn try_from(quads: &'a [Quad]) -> Result<PlainList<'a>, ListRefusal> {
+        check_plain(quads)?;
+        Ok(PlainList { quads })
+    }
+}
 
 impl<'a> PlainList<'a> {
     // The plain list of these quads, or the empty one if some number is no ID or the order is not strict.
     pub fn new(quads: &'a [Quad]) -> PlainList<'a>
         ensures { plain_means result ≡ listed quads.now }
     {
-        if check_plain(quads).is_err() {
-            return PlainList {
-                quads: &quads[0..0],
-            };
-        }
-        PlainList { quads }
+        PlainList::try_from(quads).unwrap_or(PlainList {
+            quads: &quads[0..0],
+        })
     }
 }
 
@@ -53,7 +61,7 @@ fn first_match(quads: &[Quad], pattern: Pattern) -> Option<Quad>
         if pattern.matches(*quad) {
             return Some(*quad);
         }
-        if highest.is_below(quad) {
+        if highest < *quad {
             return None;
         }
     }

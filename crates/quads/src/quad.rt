@@ -1,6 +1,5 @@
 // Quads, IDs and marks, and the order of quads.
 ghost use Rattle.quads.specs.Quads.{is_id, has_ids, quad_below, quad_of};
-ghost use Rattle.quads.specs.QuadOrder.{quad_order};
 ghost use Rattle.std.specs.Prelude.{◌≡◌};
 
 use ordered::Ordered;
@@ -8,8 +7,9 @@ use ordered::Ordered;
 // The largest ID; the least is 1.
 pub const MAX_ID: u32 = 1_048_576;
 
-// A statement of a dataset: subject, predicate, object, and the graph that it stands in.
-#[derive(Clone, Copy, PartialEq, Eq, Debug)]
+// A statement of a dataset: subject, predicate, object, and the graph that it stands in. Quads are ordered by these four
+// numbers, the first deciding.
+#[derive(Clone, Copy, PartialEq, Eq, PartialOrd, Ord, Debug)]
 pub struct Quad {
     pub s: u32,
     pub p: u32,
@@ -24,10 +24,18 @@ pub type Mark = Quad;
 pub fn is_id(n: u32) -> bool
     ensures { result ≡ is_id n }
 {
-    1 <= n && n <= MAX_ID
+    (1..=MAX_ID).contains(&n)
 }
 
 impl Quad {
+    // The mark that no quad is below.
+    pub const LOWEST: Mark = Quad {
+        s: 0,
+        p: 0,
+        o: 0,
+        g: 0,
+    };
+
     // The quad, or the mark, of these four numbers.
     pub const fn new(s: u32, p: u32, o: u32, g: u32) -> Quad
         ensures { result ≡ quad_of s p o g }
@@ -44,20 +52,12 @@ impl Quad {
 }
 
 impl Ordered for Quad {
+    ghost use Rattle.quads.specs.QuadOrder.{quad_order};
+    ghost use Rattle.quads.specs.QuadTold.{quad_told};
+
     ghost below = { quad_below };
 
     ghost laws = { quad_order };
 
-    fn is_below(&self, other: &Quad) -> bool {
-        if self.s != other.s {
-            return self.s < other.s;
-        }
-        if self.p != other.p {
-            return self.p < other.p;
-        }
-        if self.o != other.o {
-            return self.o < other.o;
-        }
-        self.g < other.g
-    }
+    ghost told = { quad_told };
 }

@@ -4,7 +4,6 @@ ghost use Rattle.std.specs.Prelude.{◌≡◌};
 
 use crate::pattern::{Pattern, Place};
 use crate::quad::{Mark, Quad};
-use ordered::Ordered;
 
 impl Place {
     // The least number that can fit.
@@ -52,7 +51,6 @@ impl Pattern {
     pub(crate) fn start(self, mark: Mark) -> Mark
         ensures { result ≡ start_of self mark }
     {
-        let lowest = self.lowest();
-        if mark.is_below(&lowest) { lowest } else { mark }
+        self.lowest().max(mark)
     }
 }

@@ -1,31 +1,30 @@
-use Rattle.std.proofs.Common.{◌≡◌, true, false, List, [], sym, ap, ◌∙◌}
-use Rattle.std.proofs.lemmas.Bool.{cond-true, cond-false, and_parts}
+use Rattle.std.proofs.Common.{◌≡◌, true, false, List, [], Ok, Err, Result, sym, refl, ap, ◌∙◌}
+use Rattle.std.proofs.lemmas.Bool.{cond-true, cond-false}
 use Rattle.quads.specs.Listings.{Listing}
 use Rattle.quads.specs.PlainLists.{is_plain, listed}
+use Rattle.quads.specs.PlainMeaning.{GivesPlain, plain_means}
+use Rattle.std.specs.Result.{result_unwrap_or}
+use Rattle.quads.proofs.Faults.{not_plain_from_refused}
+use Rattle.quads.specs.declared.check.ListRefusal.{ListRefusal}
+use Rattle.quads.specs.declared.plain.PlainList.{PlainList}
 use Rattle.quads.specs.declared.quad.Quad.{Quad}
 use Rattle.quads.proofs.plain.PlainList.new.Goals as goal
 
-listing : List Quad → Listing
+abbrev listing : List Quad → Listing
 listing qs = record { quads = qs }
 
 listed_yes : (qs : List Quad) → is_plain qs ≡ true → listing qs ≡ listed qs
-unfolding listed listing
+unfolding listed
 listed_yes qs e = ap listing (sym (cond-true (is_plain qs) qs [] e))
 
 listed_no : (qs : List Quad) → is_plain qs ≡ false → listing [] ≡ listed qs
-unfolding listed listing
+unfolding listed
 listed_no qs e = ap listing (sym (cond-false (is_plain qs) qs [] e))
 
-pub returns-then-is_err : goal.returns-then-is_err
-unfolding listing
-returns-then-is_err c = listed_no c.args.quads.now (sym c.check_plain.ensures.test ∙ c.if-is_err.ensures.negation)
-
-pub invariant_of-result-2 : goal.invariant_of-result-2
-unfolding is_plain
-invariant_of-result-2 c =
-    let plain : is_plain c.args.quads.now ≡ true = sym c.check_plain.ensures.test ∙ c.if-is_err.ensures.negation in
-    record { ascending = (and_parts _ _ plain).1; ids = (and_parts _ _ plain).0 }
+-- the list that was made, or one of no quads
+or_none : (qs : List Quad) (made : Result PlainList ListRefusal) (none : PlainList) → GivesPlain qs made → none.quads.now ≡ [] → plain_means (result_unwrap_or made none) ≡ listed qs
+or_none qs (Ok l) none gives empty = gives.1 ∙ listed_yes qs gives.0
+or_none qs (Err r) none gives empty = ap listing empty ∙ listed_no qs (not_plain_from_refused qs _ _ gives)
 
 pub returns : goal.returns
-unfolding listing
-returns c = listed_yes c.args.quads.now (sym c.check_plain.ensures.test ∙ c.if-is_err.ensures.negation)
+returns c = ap plain_means c.unwrap_or.ensures ∙ or_none c.args.quads.now c.try_from.result _ c.try_from.ensures refl
