@@ -4,7 +4,7 @@ ghost use Rattle.std.specs.Prelude.{◌≡◌};
 
 use crate::quad::{Quad, is_id};
 
-// One place of a pattern.
+// One place of a pattern. By rule of the project an enum of its own, and no Option: another kind of place may join these.
 #[derive(Clone, Copy)]
 pub enum Place {
     Any,
