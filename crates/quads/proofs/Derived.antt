@@ -1,10 +1,12 @@
--- The larger of two quads, by their derived order. Assumes nothing.
-use Rattle.std.proofs.Common.{◌≡◌, ℕ, Bool, true, false, cond, ◌&&◌, ◌||◌, ◌==◌, nat_lt, Ordering, Less, Equal, Greater, refl, ap, ◌∙◌}
-use Rattle.std.specs.Ordering.{is_lt, ord_max, ordering_then, nat_cmp}
+-- The larger of two quads, and `>=` between them, by their derived order. Assumes nothing.
+use Rattle.std.proofs.Common.{◌≡◌, ℕ, Bool, true, false, cond, not, Some, Option, ◌&&◌, ◌||◌, ◌==◌, nat_lt, Ordering, Less, Equal, Greater, refl, ap, ◌∙◌}
+use Rattle.std.specs.Ordering.{is_lt, is_ge, is_some_and, partial_ge, partial_ordering_then, ord_max, ordering_then, nat_cmp}
 use Rattle.ordered.specs.Numbers.{number_told}
 use Rattle.quads.specs.Quads.{quad_below, below_or}
 use Rattle.quads.specs.declared.quad.Quad.{Quad}
+use Rattle.quads.specs.QuadTold.{quad_told}
 use Rattle.quads.specs.contracts.quad.QuadOrd as derived
+use Rattle.quads.specs.contracts.quad.QuadPartialOrd as partly
 
 -- the first numbers decide, and where they are equal the rest of the answer does
 decided : (a b : ℕ) (rest : Ordering) → is_lt (ordering_then (nat_cmp a b) rest) ≡ below_or a b (is_lt rest)
@@ -20,3 +22,23 @@ unfolding quad_below
 larger x y =
     ap (λ below. cond below x y)
     (decided y.s x.s _ ∙ ap (below_or y.s x.s) (decided y.p x.p _ ∙ ap (below_or y.p x.p) (decided y.o x.o _ ∙ ap (below_or y.o x.o) (number_told y.g x.g))))
+
+-- `>=` is no `<`, at each answer
+not_less : (o : Ordering) → is_ge o ≡ not (is_lt o)
+not_less Less = refl
+not_less Equal = refl
+not_less Greater = refl
+
+-- an answer that is there: `>=` and `<` stay opposite with the numbers before it
+opposite : (a b : ℕ) (rest : Option Ordering) → is_some_and is_ge rest ≡ not (is_some_and is_lt rest) → is_some_and is_ge (partial_ordering_then (Some (nat_cmp a b)) rest) ≡ not (is_some_and is_lt (partial_ordering_then (Some (nat_cmp a b)) rest))
+opposite a b rest e = by_tests (nat_lt a b) (a == b)
+  where
+    by_tests : (below same : Bool) → is_some_and is_ge (partial_ordering_then (Some (cond below Less (cond same Equal Greater))) rest) ≡ not (is_some_and is_lt (partial_ordering_then (Some (cond below Less (cond same Equal Greater))) rest))
+    by_tests true same = refl
+    by_tests false true = e
+    by_tests false false = refl
+
+pub at_least : (x y : Quad) → partial_ge partly.TheImpl.ghosts.partial_cmp x y ≡ not (quad_below x y)
+at_least x y =
+    opposite x.s y.s _ (opposite x.p y.p _ (opposite x.o y.o _ (not_less (nat_cmp x.g y.g))))
+    ∙ ap not (quad_told x y)

@@ -1,12 +1,14 @@
 -- The open cursors up to a number, as a loop over the cursors meets them. Assumes nothing.
-use Rattle.std.proofs.Common.{◌≡◌, ℕ, zero, suc, ◌+◌, ◌<◌, ◌≤◌, Bool, true, false, cond, eqb, ◌⊎◌, List, [], ◌∷◌, ◌++◌, length, take, drop, set, filter, sym, refl, ap, ◌∙◌, subst, inl, inr, ⊎_elim, add-one, arith, length-append}
-use Rattle.std.specs.List.{range_with_len}
+use Rattle.std.proofs.Common.{◌≡◌, ℕ, zero, suc, ◌+◌, ◌<◌, ◌≤◌, Bool, true, false, cond, ◌&&◌, eqb, ◌⊎◌, List, [], ◌∷◌, ◌++◌, length, take, drop, set, filter, sym, refl, ap, ◌∙◌, subst, inl, inr, ⊎_elim, add-one, arith, length-append}
+use Rattle.std.specs.List.{range_with_len, count_by}
 use Rattle.std.proofs.lemmas.List.FromFn.{map-range_with_len_more}
 use Rattle.std.proofs.lemmas.List.Elements.{filter-append}
-use Rattle.std.proofs.lemmas.List.{map-id, append-nil, take_more_set, drop-set-lt, drop-drop}
-use Rattle.std.proofs.lemmas.List.Sums.{sum_by_push}
-use Rattle.std.proofs.lemmas.Bool.{cond-true, cond-false, cases_Bool, cases_order, cases_lt, both_ways, eq-eqb, ne_eqb, and_left, le-ltb}
-use Rattle.session.specs.Rolls.{is_open_at, open_cursors}
+use Rattle.std.proofs.lemmas.List.{take_all, map-id, append-nil, take_more_set, drop-set-lt, drop-drop}
+use Rattle.std.proofs.lemmas.List.Sums.{sum_by_push, count_by_more_yes, count_by_more_no}
+use Rattle.std.proofs.lemmas.Bool.{cond-true, cond-false, cases_Bool, cases_order, cases_lt, both_ways, eq-eqb, ne_eqb, and_left, le-ltb, lt-ltb}
+use Rattle.session.specs.Rolls.{is_open, is_open_at, open_cursors}
+use Rattle.session.specs.Cursors.{closed}
+use Rattle.session.specs.Tables.{cursor_at}
 use Rattle.session.specs.Outcomes.{occurrences}
 use Rattle.session.specs.declared.cursor.Table.{Table}
 
@@ -97,3 +99,24 @@ past_none t k h = and_left _ _ (le-ltb k 8 h)
 pub open_once : (t : Table) (k : ℕ) → occurrences k (open_cursors t) ≡ cond (is_open_at t k) 1 0
 unfolding open_cursors
 open_once t k = occurs (is_open_at t) 8 k (past_none t k)
+
+-- a cursor of the table is open by its state
+pub open_here : (t : Table) (k : ℕ) → k < 8 → is_open_at t k ≡ is_open (cursor_at t k).state
+unfolding is_open_at
+open_here t k h = ap (λ here. here && is_open (cursor_at t k).state) (lt-ltb k 8 h)
+
+-- counting the cursors that are open, and listing their numbers, comes to the same
+counted_upto : (t : Table) (n : ℕ) → n ≤ 8 → length t.cursors ≡ 8 → length (upto (is_open_at t) n) ≡ count_by (λ c. is_open c.state) (take n t.cursors)
+counted_upto t zero h e = refl
+counted_upto t (suc n) h e =
+    let ih = counted_upto t n (omega arith) e in
+    let here = open_here t n (omega arith) in
+    subst (λ m. length (upto (is_open_at t) m) ≡ count_by (λ c. is_open c.state) (take m t.cursors)) (add-one n)
+    (⊎_elim
+    (λ yes. ap length (upto_yes (is_open_at t) n (here ∙ yes)) ∙ length-append (upto (is_open_at t) n) (n ∷ []) ∙ ap (λ m. m + 1) ih ∙ sym (count_by_more_yes (λ c. is_open c.state) t.cursors n closed (omega arith) yes))
+    (λ no. ap length (upto_no (is_open_at t) n (here ∙ no)) ∙ ih ∙ sym (count_by_more_no (λ c. is_open c.state) t.cursors n closed (omega arith) no))
+    (cases_Bool (is_open (cursor_at t n).state)))
+
+pub open_count : (t : Table) → length t.cursors ≡ 8 → length (open_cursors t) ≡ count_by (λ c. is_open c.state) t.cursors
+unfolding open_cursors
+open_count t e = counted_upto t 8 (omega arith) e ∙ ap (count_by (λ c. is_open c.state)) (take_all 8 t.cursors (omega arith))

@@ -12,7 +12,7 @@ use Rattle.quads.specs.declared.quad.Quad.{Quad}
 use Rattle.quads.specs.declared.pattern.Pattern.{Pattern}
 use Rattle.session.specs.Cursors.{closed, outcome_in, after_in, cursor_outcome, cursor_after}
 use Rattle.session.specs.Histories.{Event, History, Opening, granted, tells, given, after_granted, opening_of, given_since, is_open_in}
-use Rattle.session.specs.Keeps.{StandsIn, Stands, Agrees, Keeps, Follows}
+use Rattle.session.specs.Keeps.{StandsIn, Stands, Agrees, Keeps, Follows, OneAsked}
 use Rattle.session.specs.Law.{due_in, Due, DueRoll, number_open}
 use Rattle.session.specs.Outcomes.{Outcome, counted, refused, refusal_number, of_count, of_roll, gave_or}
 use Rattle.session.specs.Rolls.{is_open, is_open_at, open_cursors, roll_outcome, RollWrote}
@@ -165,9 +165,12 @@ module _ (l : Listing) (ascending : strictly_ascends quad_below l.quads ≡ true
   ask_follows t k ask = follows t (ask_after l t k ask) (On k ask) (ask_outcome l t k ask) (ask_agrees t k ask)
 
   -- the same of what a call answered and left, where it is this
-  pub ask_law : (t after : Table) (k : ℕ) (ask : Ask) (o : Outcome) → o ≡ ask_outcome l t k ask → after ≡ ask_after l t k ask → Follows l t (On k ask) o after
+  ask_law : (t after : Table) (k : ℕ) (ask : Ask) (o : Outcome) → o ≡ ask_outcome l t k ask → after ≡ ask_after l t k ask → Follows l t (On k ask) o after
   ask_law t after k ask o answer then =
       subst (λ u. Follows l t (On k ask) o u) (sym then) (subst (λ x. Follows l t (On k ask) x (ask_after l t k ask)) (sym answer) (ask_follows t k ask))
+
+  pub one_asked : (t after : Table) (k : ℕ) (ask : Ask) (o : Outcome) → o ≡ ask_outcome l t k ask → after ≡ ask_after l t k ask → (granted o ≡ false → after ≡ t) → OneAsked l t k ask o after
+  one_asked t after k ask o answer then kept = record { answer = answer; table = then; kept = kept; law = ask_law t after k ask o answer then }
 
 -- asking what is left changes nothing
 left_stays : (l : Listing) (c : Cursor) (s : State) → after_in l c s Left ≡ c
@@ -184,7 +187,7 @@ cond_same : {A : Type 0} (b : Bool) (x : A) → cond b x x ≡ x
 cond_same true x = refl
 cond_same false x = refl
 
-pub left-same : (l : Listing) (t : Table) (k : ℕ) → ask_after l t k Left ≡ t
+left-same : (l : Listing) (t : Table) (k : ℕ) → ask_after l t k Left ≡ t
 left-same l t k =
     let c = cursor_at t k in
     let kept : asked l t k Left ≡ t = λ i. record {
@@ -251,6 +254,9 @@ roll_agrees l t before after r long answer wrote h keeps = (
 )
 
 module _ (l : Listing) (ascending : strictly_ascends quad_below l.quads ≡ true) (ids : each has_ids l.quads ≡ true) where
+  pub left_asked : (t : Table) (k : ℕ) (o : Outcome) → o ≡ ask_outcome l t k Left → OneAsked l t k Left o t
+  left_asked t k o answer = one_asked l ascending ids t t k Left o answer (sym (left-same l t k)) (λ refused. refl)
+
   pub tally_follows : (t : Table) → Follows l t Tally (counted t.given) t
   tally_follows t = follows l ascending ids t t Tally (counted t.given) (tally-agrees l t)
 

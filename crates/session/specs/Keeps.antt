@@ -4,11 +4,13 @@ use Rattle.std.specs.Prelude.{◌≡◌, ℕ, ◌<◌, true, false, [], ◌∷�
 use Rattle.quads.specs.Counts.{capped}
 use Rattle.quads.specs.Listings.{Listing, matching, not_below}
 use Rattle.quads.specs.declared.quad.Quad.{Quad}
-use Rattle.session.specs.Histories.{History, Opening, opening_of, given, left, has_ended, mark_of, given_since}
+use Rattle.session.specs.Histories.{History, Opening, granted, opening_of, given, left, has_ended, mark_of, given_since}
 use Rattle.session.specs.Law.{Due, Law}
 use Rattle.session.specs.Outcomes.{Outcome}
-use Rattle.session.specs.Tables.{cursor_at}
+use Rattle.session.specs.Tables.{cursor_at, ask_outcome, ask_after}
+use Rattle.session.specs.declared.call.Ask.{Ask}
 use Rattle.session.specs.declared.call.Call.{Call}
+use Rattle.session.specs.declared.call.Call.TheVariants.{On}
 use Rattle.session.specs.declared.cursor.Cursor.{Cursor}
 use Rattle.session.specs.declared.cursor.State.{State}
 use Rattle.session.specs.declared.cursor.State.TheVariants.{Closed, Waiting, Ended}
@@ -54,3 +56,10 @@ pub record Keeps (l : Listing) (h : History) (t : Table) : Type 0 where
 abbrev pub Follows : Listing → Table → Call → Outcome → Table → Type 0
 Follows l before call o after =
     (h : History) → Keeps l h before → Due l h call o × Keeps l (record { call = call; outcome = o } ∷ h) after
+
+-- what came of asking a cursor, and the table then: both are as they should be, a refusal changed nothing, and the law goes on
+pub record OneAsked (l : Listing) (before : Table) (k : ℕ) (ask : Ask) (o : Outcome) (after : Table) : Type 0 where
+  pub answer : o ≡ ask_outcome l before k ask
+  pub table : after ≡ ask_after l before k ask
+  pub kept : granted o ≡ false → after ≡ before
+  pub law : Follows l before (On k ask) o after

@@ -8,16 +8,7 @@ use crate::call::{Ask, Reply};
 use crate::count::{count_between, count_from, right_after};
 use crate::cursor::{Cursor, State};
 use crate::refusal::Refusal;
-use ordered::Ordered;
 use quads::{Mark, Pattern, Quad, QuadSource, one_more};
-
-// The mark that no quad is below.
-const LOWEST: Mark = Quad {
-    s: 0,
-    p: 0,
-    o: 0,
-    g: 0,
-};
 
 pub(crate) const CLOSED: Cursor = Cursor {
     state: State::Closed,
@@ -51,7 +42,7 @@ impl Cursor {
         ensures after { self.new ≡ opened_at pattern }
     {
         *self = Cursor {
-            state: State::Waiting(LOWEST),
+            state: State::Waiting(Quad::LOWEST),
             pattern,
             given: 0,
         };
@@ -98,7 +89,7 @@ impl Cursor {
         ensures after { self.new ≡ sought self.old mark to }
         ensures kept { is_ok result ≡ false → self.new ≡ self.old }
     {
-        if to.is_below(&mark) {
+        if to < mark {
             return Err(Refusal::MarkBehind);
         }
         let jumped = count_between(source, self.pattern, mark, to);

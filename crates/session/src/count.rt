@@ -4,7 +4,6 @@ ghost use Rattle.quads.specs.Listings.{matching, not_below};
 ghost use Rattle.quads.specs.Marks.{between, right_after};
 ghost use Rattle.std.specs.Prelude.{◌≡◌, ◌≤◌, length};
 
-use ordered::Ordered;
 use quads::{MAX_COUNT, MAX_ID, Mark, Pattern, Quad, QuadSource};
 
 // The mark right after a quad of a source.
@@ -13,10 +12,8 @@ pub(crate) fn right_after(quad: Quad) -> Mark
     ensures { result ≡ right_after quad }
 {
     Quad {
-        s: quad.s,
-        p: quad.p,
-        o: quad.o,
         g: quad.g + 1,
+        ..quad
     }
 }
 
@@ -47,10 +44,7 @@ pub(crate) fn count_between<S: QuadSource>(
     let mut count = 0;
     let mut mark = from;
     while let Some(quad) = source.first(pattern, mark) {
-        if !quad.is_below(&to) {
-            return count;
-        }
-        if count == MAX_COUNT {
+        if quad >= to || count == MAX_COUNT {
             return count;
         }
         count += 1;

@@ -1,7 +1,7 @@
 // Writing the numbers of the open cursors.
-ghost use Rattle.session.specs.Rolls.{is_open, is_open_at, open_cursors, roll_outcome, RollWrote};
+ghost use Rattle.session.specs.Rolls.{is_open, open_cursors, roll_outcome, RollWrote};
 ghost use Rattle.session.specs.Outcomes.{RollLeft, of_count};
-ghost use Rattle.std.specs.Prelude.{◌≡◌, ◌<◌, ◌≤◌, length, take, drop};
+ghost use Rattle.std.specs.Prelude.{◌≡◌, ◌<◌, ◌≤◌, length, take, drop, count_by};
 
 use crate::cursor::{State, Table};
 use crate::refusal::Refusal;
@@ -10,32 +10,17 @@ impl State {
     fn is_open(self) -> bool
         ensures { result ≡ is_open self }
     {
-        match self {
-            State::Closed => false,
-            _ => true,
-        }
+        !matches!(self, State::Closed)
     }
 }
 
 impl Table {
-    fn is_open_at(&self, cursor: usize) -> bool
-        requires { cursor < 8 }
-        ensures { result ≡ is_open_at self.now cursor }
-    {
-        self.cursors[cursor].state.is_open()
-    }
-
     // How many cursors are open.
     fn count_open(&self) -> usize
-        ensures { result ≡ length (open_cursors self.now) }
+        ensures { result ≡ count_by (λ c. is_open c.state) self.now.cursors }
     {
-        let mut count = 0;
-        for cursor in 0..8usize {
-            if self.is_open_at(cursor) {
-                count += 1;
-            }
-        }
-        count
+        let cursors = &self.cursors;
+        cursors.iter().filter(|cursor| cursor.state.is_open()).count()
     }
 
     // Writes the numbers of the open cursors at the front of the buffer, and answers how many.
@@ -46,9 +31,9 @@ impl Table {
         ensures rest { drop result buffer.new ≡ drop result buffer.old }
     {
         let mut count = 0;
-        for cursor in 0..8u32 {
-            if self.is_open_at(cursor as usize) {
-                buffer[count] = cursor;
+        for (number, cursor) in self.cursors.iter().enumerate() {
+            if cursor.state.is_open() {
+                buffer[count] = number as u32;
                 count += 1;
             }
         }

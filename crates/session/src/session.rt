@@ -1,13 +1,14 @@
 // The session: a source and its eight cursors, and the calls on them. No call has anything for its caller to test
 // beforehand, and one that is turned down changes nothing.
-ghost use Rattle.session.specs.Keeps.{Keeps, Follows};
-ghost use Rattle.session.specs.Outcomes.{RollLeft, counted, of_open, of_next, of_count, of_roll};
+ghost use Rattle.session.specs.Keeps.{Keeps, Follows, OneAsked};
+ghost use Rattle.session.specs.Outcomes.{RollLeft, counted, replied, of_open, of_next, of_count, of_roll};
 ghost use Rattle.session.specs.Rolls.{roll_outcome, RollWrote};
-ghost use Rattle.session.specs.Tables.{ask_outcome, ask_after, new_table};
+ghost use Rattle.session.specs.Tables.{new_table};
 ghost use Rattle.session.specs.declared.call.Ask.TheVariants.{Open, Next, Seek, Left, Close};
-ghost use Rattle.session.specs.declared.call.Call.TheVariants.{On, Tally, Roll};
-ghost use Rattle.std.specs.Prelude.{◌≡◌, false, [], length, is_ok};
+ghost use Rattle.session.specs.declared.call.Call.TheVariants.{Tally, Roll};
+ghost use Rattle.std.specs.Prelude.{◌≡◌, [], length};
 
+use crate::call::{Ask, Reply};
 use crate::cursor::Table;
 use crate::refusal::Refusal;
 use quads::{Mark, Pattern, Quad, QuadSource};
@@ -32,56 +33,59 @@ impl<'a, S: QuadSource> Session<'a, S> {
         }
     }
 
+    // Asks one cursor.
+    fn ask(&mut self, cursor: u32, ask: Ask) -> Result<Reply, Refusal>
+        ensures asked { OneAsked (S.means self.old.source.now) self.old.table cursor ask (replied result) self.new.table }
+        ensures source { self.new.source.now ≡ self.old.source.now }
+    {
+        self.table.ask(self.source, cursor, ask)
+    }
+
     // Sets a closed cursor to list the quads that match the pattern, from the first.
     pub fn open(&mut self, cursor: u32, pattern: Pattern) -> Result<(), Refusal>
-        ensures answer { of_open result ≡ ask_outcome (S.means self.old.source.now) self.old.table cursor (Open pattern) }
-        ensures after { self.new.table ≡ ask_after (S.means self.old.source.now) self.old.table cursor (Open pattern) }
+        ensures asked { OneAsked (S.means self.old.source.now) self.old.table cursor (Open pattern) (of_open result) self.new.table }
         ensures source { self.new.source.now ≡ self.old.source.now }
-        ensures kept { is_ok result ≡ false → self.new.table ≡ self.old.table }
-        ensures law { Follows (S.means self.old.source.now) self.old.table (On cursor (Open pattern)) (of_open result) self.new.table }
     {
-        self.table.open(self.source, cursor, pattern)
+        self.ask(cursor, Ask::Open(pattern))?;
+        Ok(())
     }
 
     // Gives the next quad that matches, or none where all were given or jumped.
     pub fn next(&mut self, cursor: u32) -> Result<Option<Quad>, Refusal>
-        ensures answer { of_next result ≡ ask_outcome (S.means self.old.source.now) self.old.table cursor Next }
-        ensures after { self.new.table ≡ ask_after (S.means self.old.source.now) self.old.table cursor Next }
+        ensures asked { OneAsked (S.means self.old.source.now) self.old.table cursor Next (of_next result) self.new.table }
         ensures source { self.new.source.now ≡ self.old.source.now }
-        ensures kept { is_ok result ≡ false → self.new.table ≡ self.old.table }
-        ensures law { Follows (S.means self.old.source.now) self.old.table (On cursor Next) (of_next result) self.new.table }
     {
-        self.table.next(self.source, cursor)
+        match self.ask(cursor, Ask::Next)? {
+            Reply::Gave(quad) => Ok(Some(quad)),
+            _ => Ok(None),
+        }
     }
 
     // Moves the cursor's mark forward, or keeps it, and counts the quads that this newly jumps.
     pub fn seek(&mut self, cursor: u32, mark: Mark) -> Result<u32, Refusal>
-        ensures answer { of_count result ≡ ask_outcome (S.means self.old.source.now) self.old.table cursor (Seek mark) }
-        ensures after { self.new.table ≡ ask_after (S.means self.old.source.now) self.old.table cursor (Seek mark) }
+        ensures asked { OneAsked (S.means self.old.source.now) self.old.table cursor (Seek mark) (of_count result) self.new.table }
         ensures source { self.new.source.now ≡ self.old.source.now }
-        ensures kept { is_ok result ≡ false → self.new.table ≡ self.old.table }
-        ensures law { Follows (S.means self.old.source.now) self.old.table (On cursor (Seek mark)) (of_count result) self.new.table }
     {
-        self.table.seek(self.source, cursor, mark)
+        let jumped = self.ask(cursor, Ask::Seek(mark))?;
+        Ok(jumped.count())
     }
 
     // Counts the quads that are left.
     pub fn left(&self, cursor: u32) -> Result<u32, Refusal>
-        ensures answer { of_count result ≡ ask_outcome (S.means self.now.source.now) self.now.table cursor Left }
-        ensures law { Follows (S.means self.now.source.now) self.now.table (On cursor Left) (of_count result) self.now.table }
+        ensures asked { OneAsked (S.means self.now.source.now) self.now.table cursor Left (of_count result) self.now.table }
     {
-        self.table.left(self.source, cursor)
+        let mut table = self.table;
+        let left = table.ask(self.source, cursor, Ask::Left)?;
+        Ok(left.count())
     }
 
     // Closes an open cursor, and counts the quads that this opening gave.
     pub fn close(&mut self, cursor: u32) -> Result<u32, Refusal>
-        ensures answer { of_count result ≡ ask_outcome (S.means self.old.source.now) self.old.table cursor Close }
-        ensures after { self.new.table ≡ ask_after (S.means self.old.source.now) self.old.table cursor Close }
+        ensures asked { OneAsked (S.means self.old.source.now) self.old.table cursor Close (of_count result) self.new.table }
         ensures source { self.new.source.now ≡ self.old.source.now }
-        ensures kept { is_ok result ≡ false → self.new.table ≡ self.old.table }
-        ensures law { Follows (S.means self.old.source.now) self.old.table (On cursor Close) (of_count result) self.new.table }
     {
-        self.table.close(self.source, cursor)
+        let given = self.ask(cursor, Ask::Close)?;
+        Ok(given.count())
     }
 
     // How many quads all cursors gave since attaching, over all their openings.

@@ -1,17 +1,5 @@
-use Rattle.std.proofs.Common.{refl}
-use Rattle.session.specs.declared.call.Ask.TheVariants.{Close}
-use Rattle.session.proofs.TableFollows.{ask_law}
+use Rattle.session.proofs.Replies.{asked_close}
 use Rattle.session.proofs.session.Session.close.Goals as goal
 
-pub returns : goal.returns
-returns g c =
-    let l = g.S.QuadSource in
-    let s = c.args.self.now.source.now in
-    let told = c.close.ensures in
-    record {
-      answer = told.answer;
-      after = told.after;
-      source = refl;
-      kept = told.kept;
-      law = ask_law (l.means s) (l.ascending s) (l.ids s) c.args.self.now.table _ c.args.cursor Close _ told.answer told.after;
-    }
+pub returns-clause-asked : goal.returns-clause-asked
+returns-clause-asked g c = asked_close _ _ _ _ _ _ c.count.ensures c.in_ok-given.ensures.asked

@@ -1,12 +1,19 @@
-use Rattle.std.proofs.Common.{sym}
-use Rattle.session.specs.declared.call.Ask.TheVariants.{Left}
-use Rattle.session.proofs.TableFollows.{ask_law, left-same}
+use Rattle.std.proofs.lemmas.Result.{err_from_is_err_and}
+use Rattle.session.proofs.Replies.{asked_left}
+use Rattle.session.proofs.TableFollows.{left_asked}
 use Rattle.session.proofs.session.Session.left.Goals as goal
+
+pub returns-in_err-left : goal.returns-in_err-left
+returns-in_err-left g c =
+    let l = g.S.QuadSource in
+    let s = c.args.self.now.source.now in
+    let p = err_from_is_err_and c.from_residual.result c.from_residual.ensures.1 in
+    rw (p.1, p.2) (record { asked = left_asked (l.means s) (l.ascending s) (l.ids s) c.args.self.now.table c.args.cursor _ c.in_err-left.ensures.outcome })
 
 pub returns : goal.returns
 returns g c =
     let l = g.S.QuadSource in
     let s = c.args.self.now.source.now in
     let t = c.args.self.now.table in
-    let told = c.left.ensures.answer in
-    record { answer = told; law = ask_law (l.means s) (l.ascending s) (l.ids s) t t c.args.cursor Left _ told (sym (left-same (l.means s) t c.args.cursor)) }
+    let told = asked_left (l.means s) t c.args.cursor c.in_ok-left.left _ c.count.ensures c.in_ok-left.ensures.outcome in
+    record { asked = left_asked (l.means s) (l.ascending s) (l.ids s) t c.args.cursor _ told }

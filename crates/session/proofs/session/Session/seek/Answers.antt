@@ -1,17 +1,5 @@
-use Rattle.std.proofs.Common.{refl}
-use Rattle.session.specs.declared.call.Ask.TheVariants.{Seek}
-use Rattle.session.proofs.TableFollows.{ask_law}
+use Rattle.session.proofs.Replies.{asked_seek}
 use Rattle.session.proofs.session.Session.seek.Goals as goal
 
-pub returns : goal.returns
-returns g c =
-    let l = g.S.QuadSource in
-    let s = c.args.self.now.source.now in
-    let told = c.seek.ensures in
-    record {
-      answer = told.answer;
-      after = told.after;
-      source = refl;
-      kept = told.kept;
-      law = ask_law (l.means s) (l.ascending s) (l.ids s) c.args.self.now.table _ c.args.cursor (Seek c.args.mark) _ told.answer told.after;
-    }
+pub returns-clause-asked : goal.returns-clause-asked
+returns-clause-asked g c = asked_seek _ _ _ _ _ c.args.mark _ c.count.ensures c.in_ok-jumped.ensures.asked
