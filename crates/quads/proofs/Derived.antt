@@ -1,5 +1,6 @@
 -- The larger of two quads, and `>=` between them, by their derived order. Assumes nothing.
-use Rattle.std.proofs.Common.{◌≡◌, ℕ, Bool, true, false, cond, not, Some, Option, ◌&&◌, ◌||◌, ◌==◌, nat_lt, Ordering, Less, Equal, Greater, refl, ap, ◌∙◌}
+use Rattle.std.proofs.Common.{◌≡◌, ℕ, Bool, true, false, cond, not, Some, Option, ◌&&◌, ◌||◌, ◌==◌, nat_lt, Ordering, Less, Equal, Greater, sym, refl, ap, ◌∙◌}
+use Rattle.std.proofs.lemmas.Bool.{not-true, not-false}
 use Rattle.std.specs.Ordering.{is_lt, is_ge, is_some_and, partial_ge, partial_ordering_then, ord_max, ordering_then, nat_cmp}
 use Rattle.ordered.specs.Numbers.{number_told}
 use Rattle.quads.specs.Quads.{quad_below, below_or}
@@ -38,7 +39,13 @@ opposite a b rest e = by_tests (nat_lt a b) (a == b)
     by_tests false true = e
     by_tests false false = refl
 
-pub at_least : (x y : Quad) → partial_ge partly.TheImpl.ghosts.partial_cmp x y ≡ not (quad_below x y)
+at_least : (x y : Quad) → partial_ge partly.TheImpl.ghosts.partial_cmp x y ≡ not (quad_below x y)
 at_least x y =
     opposite x.s y.s _ (opposite x.p y.p _ (opposite x.o y.o _ (not_less (nat_cmp x.g y.g))))
     ∙ ap not (quad_told x y)
+
+pub not_below_told : (x y : Quad) → true ≡ partial_ge partly.TheImpl.ghosts.partial_cmp x y → quad_below x y ≡ false
+not_below_told x y e = not-true _ (sym (at_least x y) ∙ sym e)
+
+pub below_told : (x y : Quad) → false ≡ partial_ge partly.TheImpl.ghosts.partial_cmp x y → quad_below x y ≡ true
+below_told x y e = not-false _ (sym (at_least x y) ∙ sym e)

@@ -51,6 +51,7 @@ pub fn check_plain(quads: &[Quad]) -> Result<(), ListRefusal>
 }
 
 // Whether the quad at the place is strictly above the one before it, if there is one before it.
+#[tactic(auto, using(crate::specs::QuadTold::quad_told), unfolding(crate::specs::PlainLists::rises_at))]
 fn rises_at(quads: &[Quad], place: usize) -> bool
     requires { place < length quads.now }
     ensures { result ≡ rises_at quads.now place }

@@ -6,6 +6,7 @@ ghost use Rattle.std.specs.Prelude.{◌≡◌, ◌+◌};
 pub const MAX_COUNT: u32 = 4_294_967_295;
 
 // One more, as counts are answered.
+#[tactic(auto, unfolding(crate::specs::Counts::capped))]
 pub fn one_more(count: u32) -> u32
     ensures { result ≡ capped (count + 1) }
 {

@@ -52,6 +52,7 @@ impl Pattern {
     };
 
     // Whether the quad has the given number at each given place.
+    #[tactic(auto, unfolding(crate::specs::Patterns::matches))]
     pub fn matches(self, quad: Quad) -> bool
         ensures { result ≡ matches self quad }
     {
@@ -62,6 +63,7 @@ impl Pattern {
     }
 
     // Whether every given number is an ID.
+    #[tactic(auto, unfolding(crate::specs::Patterns::asks_ids))]
     pub fn gives_only_ids(self) -> bool
         ensures { result ≡ asks_ids self }
     {

@@ -44,6 +44,7 @@ impl Quad {
     }
 
     // Whether all four numbers are IDs.
+    #[tactic(auto, unfolding(crate::specs::Quads::has_ids))]
     pub fn has_ids(&self) -> bool
         ensures { result ≡ has_ids self.now }
     {

@@ -84,6 +84,7 @@ impl Cursor {
     }
 
     // Moves the mark forward, or keeps it, and counts the quads that are passed over.
+    #[tactic(auto, using(quads::specs::QuadTold::quad_told))]
     fn jump<S: QuadSource>(&mut self, source: &S, mark: Mark, to: Mark) -> Result<Reply, Refusal>
         ensures outcome { replied result ≡ sought_outcome (S.means source.now) self.old.pattern mark to }
         ensures after { self.new ≡ sought self.old mark to }

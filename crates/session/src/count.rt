@@ -7,6 +7,7 @@ ghost use Rattle.std.specs.Prelude.{◌≡◌, ◌≤◌, length};
 use quads::{MAX_COUNT, MAX_ID, Mark, Pattern, Quad, QuadSource};
 
 // The mark right after a quad of a source.
+#[tactic(auto, unfolding(quads::specs::Marks::right_after))]
 pub(crate) fn right_after(quad: Quad) -> Mark
     requires { quad.g ≤ 1048576 }
     ensures { result ≡ right_after quad }

@@ -20,7 +20,10 @@ impl Table {
         ensures { result ≡ count_by (λ c. is_open c.state) self.now.cursors }
     {
         let cursors = &self.cursors;
-        cursors.iter().filter(|cursor| cursor.state.is_open()).count()
+        cursors
+            .iter()
+            .filter(|cursor| cursor.state.is_open())
+            .count()
     }
 
     // Writes the numbers of the open cursors at the front of the buffer, and answers how many.

@@ -1,14 +1,10 @@
-use Rattle.std.proofs.Common.{◌≡◌, ◌+◌, ◌<◌, length, sym, ◌∙◌, subst, arith}
+use Rattle.std.proofs.Common.{◌≡◌, ◌+◌, ◌<◌, length, sym, subst, arith}
 use Rattle.quads.specs.Listings.{matching, not_below}
 use Rattle.quads.specs.Marks.{between}
 use Rattle.session.proofs.Counting.{first_graph, first_less, count_none, count_past, count_full, count_more}
-use Rattle.quads.proofs.Derived.{at_least}
-use Rattle.std.proofs.lemmas.Bool.{not-true, not-false}
+use Rattle.quads.proofs.Derived.{not_below_told, below_told}
 use Rattle.session.proofs.count.count_between.Goals as goal
 use Rattle.session.proofs.count.count_between.Goals.{then-ge-via-then-ge, then-ge-via-else-ge+then-count}
-
-pub loop-quad-init : goal.loop-quad-init
-loop-quad-init g c = (omega arith, omega arith)
 
 pub returns-then-ge : goal.returns-then-ge
 returns-then-ge g c =
@@ -16,13 +12,10 @@ returns-then-ge g c =
     let src = g.S.QuadSource in
     elim c.then-ge.branch [
       | then-ge-via-then-ge w ↦ count_past (src.means s) (src.ascending s) (src.ids s) c.args.pattern c.loop-quad.mark c.args.to c.loop-quad.count _
-        c.loop-quad.invariant.1 c.in-Some.quad c.loop-quad.invariant.0 (sym c.in-Some.ensures) (not-true _ (sym (at_least _ _) ∙ sym w.if-ge.ensures))
+          c.loop-quad.invariant.1 c.in-Some.quad c.loop-quad.invariant.0 (sym c.in-Some.ensures) (not_below_told _ _ w.if-ge.ensures)
       | then-ge-via-else-ge+then-count w ↦ count_full (src.means s) (src.ascending s) (src.ids s) c.args.pattern c.loop-quad.mark c.args.to c.loop-quad.count _
-        c.loop-quad.invariant.1 w.if-count.true
+          c.loop-quad.invariant.1 w.if-count.true
     ]
-
-pub overflow_add-count : goal.overflow_add-count
-overflow_add-count g c = omega arith
 
 pub right_after-mark-requires : goal.right_after-mark-requires
 right_after-mark-requires g c =
@@ -46,7 +39,7 @@ loop-quad-preserved g c =
       subst (λ m. c.loop-quad.count + 1 + length (between m c.args.to (matching (src.means s) c.args.pattern)) ≡ length (between c.args.from c.args.to (matching (src.means s) c.args.pattern)))
           (sym c.right_after-mark.ensures)
           (count_more (src.means s) (src.ascending s) (src.ids s) c.args.pattern c.loop-quad.mark c.args.to c.loop-quad.count _
-          c.loop-quad.invariant.1 c.in-Some.quad (sym c.in-Some.ensures) (not-false _ (sym (at_least _ _) ∙ sym c.if-ge.ensures))),
+          c.loop-quad.invariant.1 c.in-Some.quad (sym c.in-Some.ensures) (below_told _ _ c.if-ge.ensures)),
     )
 
 pub returns : goal.returns

@@ -21,13 +21,6 @@ bounds-buffer-count c =
     room c.args.self.now c.loop-number.number c.loop-number.count _ c.loop-number-test.true (open_here c.args.self.now c.loop-number.number (omega arith) ∙ sym c.if-is_open.ensures) c.loop-number.invariant.0
     (omega arith)
 
-pub offset_bounds-buffer-count : goal.offset_bounds-buffer-count
-offset_bounds-buffer-count c =
-    omega (arith, bounds-buffer-count c)
-
-pub overflow_add-count : goal.overflow_add-count
-overflow_add-count c = omega (arith, bounds-buffer-count c)
-
 pub loop-number-preserved : goal.loop-number-preserved
 loop-number-preserved c =
     let test = is_open_at c.args.self.now in
