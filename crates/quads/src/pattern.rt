@@ -5,7 +5,7 @@ ghost use Rattle.std.specs.Prelude.{◌≡◌};
 use crate::quad::{Quad, is_id};
 
 // One place of a pattern. By rule of the project an enum of its own, and no Option: another kind of place may join these.
-#[derive(Clone, Copy)]
+#[derive(Clone, Copy, PartialEq, Eq, Debug)]
 pub enum Place {
     Any,
     Given(u32),
@@ -34,7 +34,7 @@ impl Place {
 }
 
 // What is asked for: a place for each number of a quad.
-#[derive(Clone, Copy)]
+#[derive(Clone, Copy, PartialEq, Eq, Debug)]
 pub struct Pattern {
     pub s: Place,
     pub p: Place,

@@ -1,5 +1,5 @@
 -- Which replies come of what is asked: of open that the cursor was opened, of seek, left and close a number. Assumes nothing.
-use Rattle.std.proofs.Common.{◌≡◌, ℕ, Bool, true, false, cond, length, is_ok, Ok, Err, Result, refl, sym, ◌∙◌, ap, subst}
+use Rattle.std.proofs.Common.{◌≡◌, ℕ, Bool, true, false, cond, length, is_ok, Some, None, Ok, Err, Result, refl, sym, ◌∙◌, ap, subst}
 use Rattle.quads.specs.Counts.{capped}
 use Rattle.quads.specs.Listings.{Listing, matching}
 use Rattle.quads.specs.Marks.{between}
@@ -15,7 +15,7 @@ use Rattle.session.specs.Tables.{ask_outcome, cursor_at}
 use Rattle.session.specs.declared.call.Ask.{Ask}
 use Rattle.session.specs.declared.call.Ask.TheVariants.{Open, Seek, Left, Close}
 use Rattle.session.specs.declared.call.Reply.{Reply}
-use Rattle.session.specs.declared.call.Reply.TheVariants.{Opened, Gave, End, Counted}
+use Rattle.session.specs.declared.call.Reply.TheVariants.{Opened, Next, Counted}
 use Rattle.session.specs.declared.cursor.Cursor.{Cursor}
 use Rattle.session.specs.declared.cursor.State.{State}
 use Rattle.session.specs.declared.cursor.State.TheVariants.{Closed, Waiting, Ended}
@@ -25,8 +25,8 @@ use Rattle.session.specs.declared.refusal.Refusal.{Refusal}
 -- a reply is granted
 pub refused_reply : (r : Result Reply Refusal) → granted (replied r) ≡ false → is_ok r ≡ false
 refused_reply (Ok Opened) e = e
-refused_reply (Ok (Gave q)) e = e
-refused_reply (Ok End) e = e
+refused_reply (Ok (Next (Some q))) e = e
+refused_reply (Ok (Next None)) e = e
 refused_reply (Ok (Counted n)) e = e
 refused_reply (Err r) e = refl
 
@@ -84,15 +84,15 @@ module _ (l : Listing) (t : Table) (k : ℕ) where
   is_opened : (reply : Reply) → opens (replied (Ok reply)) ≡ true → replied (Ok reply) ≡ opened
   unfolding opens
   is_opened Opened e = refl
-  is_opened (Gave q) e = cc
-  is_opened End e = cc
+  is_opened (Next (Some q)) e = cc
+  is_opened (Next None) e = cc
   is_opened (Counted n) e = cc
 
   is_counted : (reply : Reply) → counts (replied (Ok reply)) ≡ true → replied (Ok reply) ≡ counted (count_of reply)
   unfolding counts
   is_counted Opened e = cc
-  is_counted (Gave q) e = cc
-  is_counted End e = cc
+  is_counted (Next (Some q)) e = cc
+  is_counted (Next None) e = cc
   is_counted (Counted n) e = refl
 
   asked_number : (reply : Reply) (ask : Ask) (n : ℕ) → counts (outcome_in l (cursor_at t k) (cursor_at t k).state ask) ≡ true → n ≡ count_of reply → replied (Ok reply) ≡ ask_outcome l t k ask → replied (Ok reply) ≡ counted n

@@ -4,7 +4,7 @@ use Rattle.quads.specs.declared.quad.Quad.{Quad}
 use Rattle.session.specs.declared.refusal.Refusal.{Refusal}
 use Rattle.session.specs.declared.refusal.Refusal.TheVariants.{NoSuchCursor, NotAnId, CursorClosed, CursorOpen, CursorEnded, MarkBehind, BufferShort}
 use Rattle.session.specs.declared.call.Reply.{Reply}
-use Rattle.session.specs.declared.call.Reply.TheVariants.{Opened, Gave, End, Counted}
+use Rattle.session.specs.declared.call.Reply.TheVariants.{Opened, Next, Counted}
 
 -- a cursor was opened; a quad was given; a next answered end; a number was answered; so many cursors were written, and
 -- these; the call was refused with a number
@@ -38,16 +38,14 @@ refusal_number BufferShort = 25
 -- the outcome of a cursor's reply
 abbrev pub replied : Result Reply Refusal → Outcome
 replied (Ok Opened) = opened
-replied (Ok (Gave q)) = gave q
-replied (Ok End) = ended
+replied (Ok (Next found)) = gave_or found
 replied (Ok (Counted n)) = counted n
 replied (Err r) = refused (refusal_number r)
 
 -- the count in a reply, or 0
 abbrev pub count_of : Reply → ℕ
 count_of Opened = 0
-count_of (Gave q) = 0
-count_of End = 0
+count_of (Next found) = 0
 count_of (Counted n) = n
 
 -- the outcomes of the public calls, by what each returns: open; next; seek, left and close

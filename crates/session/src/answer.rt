@@ -30,7 +30,7 @@ impl Cursor {
             (State::Waiting(mark), Ask::Next) => Ok(self.advance(source, mark)),
             (State::Waiting(mark), Ask::Seek(to)) => self.jump(source, mark, to),
             (State::Waiting(mark), Ask::Left) => Ok(self.left(source, mark)),
-            (State::Ended, Ask::Next) => Ok(Reply::End),
+            (State::Ended, Ask::Next) => Ok(Reply::Next(None)),
             (State::Ended, Ask::Seek(_)) => Err(Refusal::CursorEnded),
             (State::Ended, Ask::Left) => Ok(Reply::Counted(0)),
             (_, Ask::Close) => Ok(self.close()),
@@ -70,17 +70,15 @@ impl Cursor {
         ensures outcome { replied (Ok result) ≡ gave_or (first_from (S.means source.now) self.old.pattern mark) }
         ensures after { self.new ≡ advanced self.old (first_from (S.means source.now) self.old.pattern mark) }
     {
-        match source.first(self.pattern, mark) {
+        let found = source.first(self.pattern, mark);
+        match found {
             Some(quad) => {
                 self.state = State::Waiting(right_after(quad));
                 self.given = one_more(self.given);
-                Reply::Gave(quad)
             }
-            None => {
-                self.state = State::Ended;
-                Reply::End
-            }
+            None => self.state = State::Ended,
         }
+        Reply::Next(found)
     }
 
     // Moves the mark forward, or keeps it, and counts the quads that are passed over.

@@ -5,7 +5,7 @@ ghost use Rattle.std.specs.Prelude.{◌≡◌};
 use quads::{Mark, Pattern, Quad};
 
 // What is asked of one cursor.
-#[derive(Clone, Copy)]
+#[derive(Clone, Copy, PartialEq, Eq, Debug)]
 pub enum Ask {
     // Begin to list the quads that match the pattern.
     Open(Pattern),
@@ -20,7 +20,7 @@ pub enum Ask {
 }
 
 // A call on a session, with what it is handed.
-#[derive(Clone, Copy)]
+#[derive(Clone, Copy, PartialEq, Eq, Debug)]
 pub enum Call {
     // Something is asked of the cursor of this number.
     On(u32, Ask),
@@ -31,11 +31,11 @@ pub enum Call {
 }
 
 // What a cursor that does not refuse answers.
-#[derive(Clone, Copy)]
+#[derive(Clone, Copy, PartialEq, Eq, Debug)]
 pub enum Reply {
     Opened,
-    Gave(Quad),
-    End,
+    // The quad that was given, or that there is none.
+    Next(Option<Quad>),
     Counted(u32),
 }
 

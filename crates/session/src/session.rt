@@ -56,7 +56,7 @@ impl<'a, S: QuadSource> Session<'a, S> {
         ensures source { self.new.source.now ≡ self.old.source.now }
     {
         match self.ask(cursor, Ask::Next)? {
-            Reply::Gave(quad) => Ok(Some(quad)),
+            Reply::Next(found) => Ok(found),
             _ => Ok(None),
         }
     }

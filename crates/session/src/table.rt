@@ -54,7 +54,7 @@ impl Table {
             return Err(Refusal::NotAnId);
         }
         let reply = self.cursors[cursor as usize].answer(source, ask)?;
-        if let Reply::Gave(_) = reply {
+        if let Reply::Next(Some(_)) = reply {
             self.given = one_more(self.given);
         }
         Ok(reply)
