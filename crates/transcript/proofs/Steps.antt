@@ -1,5 +1,5 @@
 -- One record more of a transcript. Assumes nothing.
-use Rattle.std.proofs.Common.{◌≡◌, ℕ, ◌+◌, ◌<◌, List, [], ◌∷◌, ◌++◌, map, reverse, length, get_or, take, set, sym, refl, ap, ◌∙◌, subst}
+use Rattle.std.proofs.Common.{◌≡◌, ℕ, ◌+◌, ◌<◌, List, [], ◌∷◌, ◌++◌, map, reverse, length, get_or, take, set, Some, None, Result, sym, refl, ap, ◌∙◌, subst}
 use Rattle.std.specs.Prelude.{All}
 use Rattle.std.proofs.lemmas.List.Elements.{All-push}
 use Rattle.std.proofs.lemmas.List.{map-append, map-set, reverse-append, take_more_set, get_or-map, set-get_or}
@@ -9,14 +9,14 @@ use Rattle.quads.specs.declared.pattern.Place.TheVariants.{Any}
 use Rattle.session.specs.declared.call.Ask.TheVariants.{Open}
 use Rattle.session.specs.declared.call.Call.TheVariants.{On}
 use Rattle.session.specs.declared.cursor.Table.{Table}
-use Rattle.transcript.specs.Transcripts.{outcome_of, RestKept, event_of, history_of, calls_of}
+use Rattle.session.specs.declared.refusal.Refusal.{Refusal}
+use Rattle.transcript.specs.Transcripts.{outcome_of, RestKept, RestTold, event_of, history_of, calls_of}
 use Rattle.transcript.specs.declared.records.Record.{Record}
 use Rattle.transcript.specs.declared.records.Answer.{Answer}
-use Rattle.transcript.specs.declared.records.Answer.TheVariants.{Pending}
 
 -- what stands past the end of a transcript
 abbrev pub blank : Record
-blank = record { call = On 0 (Open (record { s = Any; p = Any; o = Any; g = Any })); answer = Pending }
+blank = record { call = On 0 (Open (record { s = Any; p = Any; o = Any; g = Any })); answer = None }
 
 history_push : (rs : List Record) (r : Record) → history_of (rs ++ r ∷ []) ≡ event_of r ∷ history_of rs
 unfolding history_of
@@ -26,10 +26,10 @@ pub history_none : history_of [] ≡ []
 unfolding history_of
 history_none = refl
 
-module _ (rs : List Record) (i : ℕ) (d : Record) (answer : Answer) (within : i < length rs) where
+module _ (rs : List Record) (i : ℕ) (d : Record) (answer : Result Answer Refusal) (within : i < length rs) where
   -- the record at place i with this answer
   abbrev made : Record
-  made = record { call = (get_or rs i d).call; answer = answer }
+  made = record { call = (get_or rs i d).call; answer = Some answer }
 
   done : take (i + 1) (set rs i made) ≡ take i rs ++ made ∷ []
   done = take_more_set rs i made within
@@ -46,5 +46,5 @@ module _ (rs : List Record) (i : ℕ) (d : Record) (answer : Answer) (within : i
       ∙ ap (set (calls_of rs) i) (sym (get_or-map (λ r. r.call) rs i d d.call within))
       ∙ set-get_or (calls_of rs) i d.call
 
-  pub rest_more : All (λ r. RestKept r.answer) (take i rs) → RestKept answer → All (λ r. RestKept r.answer) (take (i + 1) (set rs i made))
-  rest_more all this = subst (All (λ r. RestKept r.answer)) (sym done) (All-push (λ r. RestKept r.answer) (take i rs) made all this)
+  pub rest_more : All (λ r. RestTold r.answer) (take i rs) → RestKept answer → All (λ r. RestTold r.answer) (take (i + 1) (set rs i made))
+  rest_more all this = subst (All (λ r. RestTold r.answer)) (sym done) (All-push (λ r. RestTold r.answer) (take i rs) made all this)

@@ -1,5 +1,6 @@
 use Rattle.std.proofs.Common.{◌≡◌, ℕ, ◌-◌, min, List, length, take, drop, replicate, ◌∙◌, arith}
 use Rattle.std.proofs.lemmas.List.{length-take, take-append-drop}
+use Rattle.std.proofs.lemmas.Result.{err_from_is_err_and}
 use Rattle.transcript.proofs.Rolls.{roll_ok, roll_err, roll_rest}
 use Rattle.transcript.proofs.calls.make_roll.Goals as goal
 
@@ -10,25 +11,29 @@ part_size : (room m : ℕ) → m ≡ min room 8 → length (take (m - 0) zeros) 
 unfolding zeros
 part_size room m e = length-take (m - 0) zeros ∙ omega arith
 
-pub returns-in-Ok : goal.returns-in-Ok
+pub returns : goal.returns
 unfolding zeros
-returns-in-Ok g c =
+returns g c =
     let q = g.S.QuadSource in
     let s = c.args.session.now.source.now in
     let t = c.args.session.now.table in
-    let told = c.in-Ok.ensures in
+    let told = c.in_ok-count.ensures in
     let size = part_size c.args.room c.min.result c.min.ensures in
     record {
-      law = roll_ok (q.means s) (q.ascending s) (q.ids s) t c.args.room c.in-Ok.count _ c.roll.new.buffer _ size (omega arith) told.answer told.law;
-      rest = roll_rest (q.means s) (q.ascending s) (q.ids s) t c.args.room c.in-Ok.count _ c.roll.new.buffer _ size (omega arith) zeros told.answer told.rest (take-append-drop (c.min.result - 0) zeros);
+      law = roll_ok (q.means s) (q.ascending s) (q.ids s) t c.args.room c.in_ok-count.count _ c.roll.new.buffer _ size (omega arith) told.answer told.law;
+      rest = roll_rest (q.means s) (q.ascending s) (q.ids s) t c.args.room c.in_ok-count.count _ c.roll.new.buffer _ size (omega arith) zeros told.answer told.rest (take-append-drop (c.min.result - 0) zeros);
     }
 
-pub returns-in-Err : goal.returns-in-Err
+pub returns-in_err-count : goal.returns-in_err-count
 unfolding zeros
-returns-in-Err g c =
+returns-in_err-count g c =
     let q = g.S.QuadSource in
     let s = c.args.session.now.source.now in
     let t = c.args.session.now.table in
-    let told = c.in-Err.ensures in
     let size = part_size c.args.room c.min.result c.min.ensures in
-    record { law = roll_err (q.means s) (q.ascending s) (q.ids s) t c.args.room 0 _ c.roll.new.buffer (drop 0 zeros) size (omega arith) _ told.law; rest = tt }
+    let p = err_from_is_err_and c.from_residual.result c.from_residual.ensures.1 in
+    rw (p.1, p.2)
+    (record {
+      law = roll_err (q.means s) (q.ascending s) (q.ids s) t c.args.room 0 _ c.roll.new.buffer (drop 0 zeros) size (omega arith) _ c.in_err-count.ensures.law;
+      rest = tt;
+    })

@@ -1,10 +1,6 @@
-use Rattle.std.proofs.Common.{◌<◌, ◌≤◌, length, get_or, sym, refl, ◌∙◌, subst, arith}
-use Rattle.std.specs.Prelude.{All}
-use Rattle.std.proofs.lemmas.List.{take_all}
+use Rattle.std.proofs.Common.{◌<◌, length, get_or, sym, refl, ◌∙◌, subst, arith}
 use Rattle.session.specs.Keeps.{Keeps, Follows}
-use Rattle.session.specs.Law.{Law}
-use Rattle.transcript.specs.Transcripts.{outcome_of, RestKept, history_of}
-use Rattle.transcript.specs.declared.records.Record.{Record}
+use Rattle.transcript.specs.Transcripts.{outcome_of}
 use Rattle.transcript.proofs.Steps.{blank, history_none, keeps_more, calls_more, rest_more}
 use Rattle.transcript.proofs.runs.run.Goals as goal
 
@@ -27,25 +23,11 @@ loop-record-preserved g c =
     let i = c.loop-record.record-index in
     let within : i < length rs = omega arith in
     let inv = c.loop-record.invariant in
-    let told = c.make-record.ensures in
-    let law : Follows (means src) c.loop-record.session.table (get_or rs i blank).call (outcome_of c.make-record.result) c.make-record.new.session.table =
-    subst (λ s. Follows (means s) c.loop-record.session.table (get_or rs i blank).call (outcome_of c.make-record.result) c.make-record.new.session.table) inv.0 told.law in (
+    let told = c.make.ensures in
+    let law : Follows (means src) c.loop-record.session.table (get_or rs i blank).call (outcome_of c.make.result) c.make.new.session.table =
+    subst (λ s. Follows (means s) c.loop-record.session.table (get_or rs i blank).call (outcome_of c.make.result) c.make.new.session.table) inv.0 told.law in (
       told.source ∙ inv.0,
-      keeps_more rs i blank c.make-record.result within (means src) _ _ law inv.1,
-      calls_more rs i blank c.make-record.result within ∙ inv.2,
-      rest_more rs i blank c.make-record.result within inv.3 told.rest,
+      keeps_more rs i blank c.make.result within (means src) _ _ law inv.1,
+      calls_more rs i blank c.make.result within ∙ inv.2,
+      rest_more rs i blank c.make.result within inv.3 told.rest,
     )
-
-pub returns : goal.returns
-returns g c =
-    let means = g.S.QuadSource.means in
-    let inv = c.loop-record.invariant in
-    let past : length c.loop-record.records ≤ c.loop-record.record-index = omega arith in
-    let all = take_all c.loop-record.record-index c.loop-record.records past in
-    let law : Law (means c.attach-session.result.source.now) (history_of c.loop-record.records) =
-    subst (λ rs. Law (means c.attach-session.result.source.now) (history_of rs)) all inv.1.law in
-    record {
-      calls = inv.2;
-      law = subst (λ s. Law (means s) (history_of c.loop-record.records)) c.attach-session.ensures.source law;
-      rest = subst (All (λ (r : Record). RestKept r.answer)) all inv.3;
-    }

@@ -1,7 +1,7 @@
 use Rattle.std.proofs.Common.{◌≡◌, take}
 use Rattle.session.specs.Keeps.{Keeps}
 use Rattle.std.specs.Prelude.{All}
-use Rattle.transcript.specs.Transcripts.{RestKept, history_of, calls_of}
+use Rattle.transcript.specs.Transcripts.{RestTold, history_of, calls_of}
 use Rattle.transcript.proofs.runs.run.Given as goal
 
 -- the session keeps to the history that the records so far tell
@@ -12,4 +12,4 @@ invariant-loop-record g l =
     (l.session.source.now ≡ l.initial.session.source.now)
     × Keeps (means l.initial.session.source.now) (history_of done) l.session.table
     × (calls_of l.records ≡ calls_of l.initial.records)
-    × All (λ r. RestKept r.answer) done
+    × All (λ r. RestTold r.answer) done
