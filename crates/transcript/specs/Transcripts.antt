@@ -35,6 +35,10 @@ abbrev pub RestTold : Option (Result Answer Refusal) → Type 0
 RestTold None = Unit {0}
 RestTold (Some answer) = RestKept answer
 
+-- a call that is not yet made
+abbrev pub pending : Call → Record
+pending call = record { call = call; answer = None }
+
 -- the call of a record, and the outcome that its answer tells
 abbrev pub event_of : Record → Event
 event_of r = record { call = r.call; outcome = outcome_told r.answer }

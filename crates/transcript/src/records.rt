@@ -1,4 +1,6 @@
 // A call on a session, and what came of it.
+ghost use Rattle.std.specs.Prelude.{◌≡◌};
+
 use quads::Quad;
 use session::{Call, Refusal};
 
@@ -21,4 +23,15 @@ pub enum Answer {
 pub struct Record {
     pub call: Call,
     pub answer: Option<Result<Answer, Refusal>>,
+}
+
+impl Record {
+    ghost use Rattle.transcript.specs.Transcripts.{pending};
+
+    // A call that is yet to be made.
+    pub const fn new(call: Call) -> Record
+        ensures { result ≡ pending call }
+    {
+        Record { call, answer: None }
+    }
 }
