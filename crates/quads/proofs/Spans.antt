@@ -9,18 +9,18 @@ use Rattle.quads.specs.Quads.{is_id, has_ids, below_or, quad_below}
 use Rattle.quads.specs.QuadOrder.{quad_order, below_or_cases}
 use Rattle.quads.specs.Patterns.{fits, matches}
 use Rattle.quads.specs.Listings.{Listing, matching, not_below, first_from}
-use Rattle.quads.specs.Spans.{least_at, most_at, lowest_of, highest_of, start_of}
+use Rattle.quads.specs.Spans.{number_or, lowest_of, highest_of, start_of}
 use Rattle.quads.specs.declared.quad.Quad.{Quad}
 use Rattle.quads.specs.declared.pattern.Place.{Place}
 use Rattle.quads.specs.declared.pattern.Place.TheVariants.{Any, Given}
 use Rattle.quads.specs.declared.pattern.Pattern.{Pattern}
 
 -- what fits a place lies between its bounds
-fits_least : (p : Place) (n : ℕ) → fits p n ≡ true → least_at p ≤ n
+fits_least : (p : Place) (n : ℕ) → fits p n ≡ true → number_or p 0 ≤ n
 fits_least Any n e = omega arith
 fits_least (Given id) n e = omega (arith, eqb-true n id (and_parts _ _ e).1)
 
-fits_most : (p : Place) (n : ℕ) → n < 4294967296 → fits p n ≡ true → n ≤ most_at p
+fits_most : (p : Place) (n : ℕ) → n < 4294967296 → fits p n ≡ true → n ≤ number_or p 4294967295
 fits_most Any n h e = omega arith
 fits_most (Given id) n h e = omega (arith, eqb-true n id (and_parts _ _ e).1)
 
@@ -46,10 +46,10 @@ pub match_not_below : (p : Pattern) (q : Quad) → matches p q ≡ true → quad
 unfolding quad_below
 match_not_below p q e =
     let m = match_parts p q e in
-    below_or_not q.s (least_at p.s) _ (fits_least p.s q.s m.0)
-    (below_or_not q.p (least_at p.p) _ (fits_least p.p q.p m.1)
-    (below_or_not q.o (least_at p.o) _ (fits_least p.o q.o m.2)
-    (le-ltb q.g (least_at p.g) (fits_least p.g q.g m.3))))
+    below_or_not q.s (number_or p.s 0) _ (fits_least p.s q.s m.0)
+    (below_or_not q.p (number_or p.p 0) _ (fits_least p.p q.p m.1)
+    (below_or_not q.o (number_or p.o 0) _ (fits_least p.o q.o m.2)
+    (le-ltb q.g (number_or p.g 0) (fits_least p.g q.g m.3))))
 
 matching-matches : (l : Listing) (p : Pattern) → each (matches p) (matching l p) ≡ true
 unfolding matching
@@ -89,10 +89,10 @@ unfolding quad_below
 match_not_above p q h e =
     let m = match_parts p q e in
     let i = id_parts q h in
-    below_or_not (most_at p.s) q.s _ (fits_most p.s q.s (omega (arith, i.0)) m.0)
-    (below_or_not (most_at p.p) q.p _ (fits_most p.p q.p (omega (arith, i.1)) m.1)
-    (below_or_not (most_at p.o) q.o _ (fits_most p.o q.o (omega (arith, i.2)) m.2)
-    (le-ltb (most_at p.g) q.g (fits_most p.g q.g (omega (arith, i.3)) m.3))))
+    below_or_not (number_or p.s 4294967295) q.s _ (fits_most p.s q.s (omega (arith, i.0)) m.0)
+    (below_or_not (number_or p.p 4294967295) q.p _ (fits_most p.p q.p (omega (arith, i.1)) m.1)
+    (below_or_not (number_or p.o 4294967295) q.o _ (fits_most p.o q.o (omega (arith, i.2)) m.2)
+    (le-ltb (number_or p.g 4294967295) q.g (fits_most p.g q.g (omega (arith, i.3)) m.3))))
 
 -- the rest of a list from a place on
 pub each-drop : {A : Type 0} (t : A → Bool) (n : ℕ) (xs : List A) → each t xs ≡ true → each t (drop n xs) ≡ true

@@ -6,21 +6,21 @@ use Rattle.quads.specs.declared.pattern.Place.{Place}
 use Rattle.quads.specs.declared.pattern.Place.TheVariants.{Any, Given}
 use Rattle.quads.specs.declared.pattern.Pattern.{Pattern}
 
--- the least and the largest number that can fit the place
-abbrev pub least_at : Place → ℕ
-least_at Any = 0
-least_at (Given id) = id
+-- the given number, or another where the place is open
+abbrev pub number_or : Place → ℕ → ℕ
+number_or Any other = other
+number_or (Given id) other = id
 
-abbrev pub most_at : Place → ℕ
-most_at Any = 4294967295
-most_at (Given id) = id
+-- the given numbers, with another at the open places
+abbrev pub filled : Pattern → ℕ → Quad
+filled p other = quad_of (number_or p.s other) (number_or p.p other) (number_or p.o other) (number_or p.g other)
 
 -- no matching quad is below the one or above the other
 abbrev pub lowest_of : Pattern → Quad
-lowest_of p = quad_of (least_at p.s) (least_at p.p) (least_at p.o) (least_at p.g)
+lowest_of p = filled p 0
 
 abbrev pub highest_of : Pattern → Quad
-highest_of p = quad_of (most_at p.s) (most_at p.p) (most_at p.o) (most_at p.g)
+highest_of p = filled p 4294967295
 
 -- the mark, or the lowest match's bound where that is above it
 abbrev pub start_of : Pattern → Quad → Quad

@@ -1,42 +1,32 @@
 // Between which quads those that match a pattern lie.
-ghost use Rattle.quads.specs.Spans.{least_at, most_at, lowest_of, highest_of, start_of};
+ghost use Rattle.quads.specs.Spans.{number_or, filled, highest_of, start_of};
 ghost use Rattle.std.specs.Prelude.{◌≡◌};
 
 use crate::pattern::{Pattern, Place};
 use crate::quad::{Mark, Quad};
 
 impl Place {
-    // The least number that can fit.
-    fn least(self) -> u32
-        ensures { result ≡ least_at self }
+    // The given number, or this one where the place is open.
+    fn number_or(self, other: u32) -> u32
+        ensures { result ≡ number_or self other }
     {
         match self {
-            Place::Any => 0,
-            Place::Given(id) => id,
-        }
-    }
-
-    // The largest number that can fit.
-    fn most(self) -> u32
-        ensures { result ≡ most_at self }
-    {
-        match self {
-            Place::Any => u32::MAX,
+            Place::Any => other,
             Place::Given(id) => id,
         }
     }
 }
 
 impl Pattern {
-    // A mark that no matching quad is below.
-    fn lowest(self) -> Mark
-        ensures { result ≡ lowest_of self }
+    // The given numbers, with this one at the open places.
+    fn filled(self, other: u32) -> Mark
+        ensures { result ≡ filled self other }
     {
         Quad::new(
-            self.s.least(),
-            self.p.least(),
-            self.o.least(),
-            self.g.least(),
+            self.s.number_or(other),
+            self.p.number_or(other),
+            self.o.number_or(other),
+            self.g.number_or(other),
         )
     }
 
@@ -44,13 +34,13 @@ impl Pattern {
     pub(crate) fn highest(self) -> Mark
         ensures { result ≡ highest_of self }
     {
-        Quad::new(self.s.most(), self.p.most(), self.o.most(), self.g.most())
+        self.filled(u32::MAX)
     }
 
     // Where to begin to look for the first match from a mark on.
     pub(crate) fn start(self, mark: Mark) -> Mark
         ensures { result ≡ start_of self mark }
     {
-        self.lowest().max(mark)
+        self.filled(0).max(mark)
     }
 }

@@ -4,4 +4,4 @@ use Rattle.quads.proofs.Derived.{larger}
 use Rattle.quads.proofs.pattern.Pattern.start.Goals as goal
 
 pub returns : goal.returns
-returns c = c.max.ensures ∙ larger _ _ ∙ ap (λ lowest. cond (quad_below c.args.mark lowest) lowest c.args.mark) c.lowest.ensures
+returns c = c.max.ensures ∙ larger _ _ ∙ ap (λ lowest. cond (quad_below c.args.mark lowest) lowest c.args.mark) c.filled.ensures
