@@ -31,11 +31,6 @@ above_not_same q x b =
     (λ f. f)
     (cases_Bool (same_quad x q))
 
--- tests
-or_false : (a : Bool) → (a || false) ≡ a
-or_false true = refl
-or_false false = refl
-
 or_assoc : (a b c : Bool) → ((a || b) || c) ≡ (a || (b || c))
 or_assoc true b c = refl
 or_assoc false b c = refl
