@@ -1,6 +1,5 @@
 pub mod Fields
 pub mod NumberBits
 pub mod PackedReading
-pub mod PackedRowLaws
 pub mod PlainNumberLaws
 pub mod Widths

@@ -1,5 +1,5 @@
 -- The words of rows of numbers below 2^32, plain and packed, from the numbers. Assumes nothing.
-use Rattle.std.specs.Prelude.{ℕ, ◌+◌, ◌*◌, ◌/◌, ◌%◌, ◌^◌, Bool, List, ◌∷◌, map, length, Some, None, Option, nat_lt, slice_index}
+use Rattle.std.specs.Prelude.{◌≡◌, ℕ, ◌+◌, ◌*◌, ◌/◌, ◌%◌, ◌^◌, ◌≤◌, Bool, true, List, ◌∷◌, map, length, Some, None, Option, nat_lt, slice_index}
 use Rattle.std.specs.List.{range_with_len}
 use Rattle.ordered.specs.Lists.{each, first_place}
 use Rattle.bits.specs.Words.{bit_of, words_for, packed_bits}
@@ -7,6 +7,10 @@ use Rattle.bits.specs.Words.{bit_of, words_for, packed_bits}
 -- each number is below 2 ^ w
 abbrev pub each_below : ℕ → List ℕ → Bool
 each_below w numbers = each (λ n. nat_lt n (2 ^ w)) numbers
+
+-- the lists of numbers that have a row, plain and packed: so few numbers, each below 2^32
+abbrev pub HasNumbers : List ℕ → Type 0
+HasNumbers numbers = (length numbers ≤ 67108864) × (each_below 32 numbers ≡ true)
 
 -- the words of a row of plain numbers: how many, and one word for each
 abbrev pub plain_number_words : List ℕ → List ℕ
@@ -39,3 +43,10 @@ plain_number_room n = 1 + n
 
 abbrev pub packed_room : ℕ → ℕ → ℕ
 packed_room w n = 2 + words_for (w * n)
+
+-- and how many the row of these numbers takes
+abbrev pub plain_numbers_room : List ℕ → ℕ
+plain_numbers_room numbers = plain_number_room (length numbers)
+
+abbrev pub packed_numbers_room : List ℕ → ℕ
+packed_numbers_room numbers = packed_room (width_of numbers) (length numbers)

@@ -1,7 +1,7 @@
 -- What reading the words of a row of packed numbers answers. Assumes nothing.
-use Rattle.std.specs.Prelude.{◌≡◌, ℕ, ◌*◌, ◌≤◌, Bool, true, cond, not, ◌&&◌, List, [], ◌++◌, length, take, drop, Ok, Err, Result, nat_le, nat_lt, slice_index}
+use Rattle.std.specs.Prelude.{ℕ, ◌*◌, Bool, cond, not, ◌&&◌, List, length, take, drop, Ok, Err, Result, nat_le, nat_lt, slice_index}
 use Rattle.bits.specs.Words.{words_for, spare_zero}
-use Rattle.numbers.specs.NumberWords.{each_below, width_of, packed_words, packed_room}
+use Rattle.numbers.specs.NumberWords.{width_of, packed_room}
 use Rattle.numbers.specs.NumbersIn.{numbers_in}
 use Rattle.numbers.specs.declared.fault.NumbersFault.{NumbersFault}
 use Rattle.numbers.specs.declared.fault.NumbersFault.TheVariants.{Short, TooManyNumbers, WidthOutOfRange, SpareBitSet, WrongContent}
@@ -35,22 +35,3 @@ packed_read ws =
     (cond (not (spare_zero (content_words ws) (width_in ws * count_of ws))) (Err SpareBitSet)
     (cond (nat_lt (width_of (numbers_packed ws)) (width_in ws)) (Err WrongContent)
     (Ok (packed_room (width_in ws) (count_of ws))))))))
-
--- the numbers of the row at the front of the words, or none if there is no row
-abbrev pub packed_numbers_read : Result ℕ NumbersFault → List ℕ → List ℕ
-packed_numbers_read (Ok n) ws = numbers_packed ws
-packed_numbers_read (Err fault) ws = []
-
--- a reading takes the words of the numbers that it reads
-abbrev pub TakesPacked : List ℕ → Result ℕ NumbersFault → Type 0
-TakesPacked ws r = (n : ℕ) → r ≡ Ok n → take n ws ≡ packed_words (packed_numbers_read r ws)
-
--- and it takes the words of any list of so few numbers below 2^32, whatever follows them
-abbrev pub FindsPacked : List ℕ → Result ℕ NumbersFault → Type 0
-FindsPacked ws r =
-    (numbers rest : List ℕ) → length numbers ≤ 67108864 → each_below 32 numbers ≡ true → ws ≡ packed_words numbers ++ rest → r ≡ Ok (packed_room (width_of numbers) (length numbers))
-
--- and what is then read are these numbers
-abbrev pub ReadsPacked : List ℕ → List ℕ → Type 0
-ReadsPacked ws read =
-    (numbers rest : List ℕ) → length numbers ≤ 67108864 → each_below 32 numbers ≡ true → ws ≡ packed_words numbers ++ rest → read ≡ numbers

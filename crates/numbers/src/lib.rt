@@ -1,4 +1,4 @@
-// Numbers in lent words.
+// Rows of numbers below 2^32 in lent words.
 #![tactic(auto)]
 
 mod fault;
@@ -8,13 +8,9 @@ mod packed_row;
 mod plain;
 mod plain_read;
 mod plain_row;
-mod row;
 mod width;
 
 pub use fault::NumbersFault;
 pub use packed::PackedNumbers;
-pub use packed_read::check_packed_numbers;
 pub use plain::PlainNumbers;
-pub use plain_read::{MAX_NUMBERS, check_plain_numbers};
-pub use row::NumberRow;
 pub use width::width_of;

@@ -4,7 +4,7 @@ ghost use Rattle.numbers.specs.PackedMeaning.{packed_numbers};
 ghost use Rattle.std.specs.Prelude.{◌≡◌, ◌<◌};
 
 use crate::packed::PackedNumbers;
-use crate::row::NumberRow;
+use bits::Row;
 
 impl<'a> PackedNumbers<'a> {
     // The number at a place of the row. It lies in one word or in two.
@@ -25,14 +25,16 @@ impl<'a> PackedNumbers<'a> {
     }
 }
 
-impl<'a> NumberRow for PackedNumbers<'a> {
-    ghost numbers = { packed_numbers };
+impl<'a> Row for PackedNumbers<'a> {
+    type Item = u32;
+
+    ghost items = { packed_numbers };
 
     fn len(&self) -> usize {
         self.len
     }
 
-    fn number(&self, place: usize) -> Option<u32> {
+    fn get(&self, place: usize) -> Option<u32> {
         if place >= self.len {
             return None;
         }

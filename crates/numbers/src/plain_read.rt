@@ -1,61 +1,68 @@
 // Reading a row of plain numbers from words that may go on after it.
-ghost use Rattle.numbers.specs.NumberWords.{each_below};
+ghost use Rattle.bits.specs.StoredRows.{FindsRow, TakesRow};
+ghost use Rattle.numbers.specs.NumberWords.{HasNumbers, plain_number_words, plain_numbers_room};
 ghost use Rattle.numbers.specs.PlainMeaning.{plain_numbers};
-ghost use Rattle.numbers.specs.PlainNumberRows.{plain_numbers_read, numbers_read, TakesNumbers, FindsNumbers, ReadsNumbers};
-ghost use Rattle.std.specs.Prelude.{◌≡◌};
+ghost use Rattle.numbers.specs.PlainNumberRows.{plain_numbers_read, numbers_after};
+ghost use Rattle.numbers.specs.Reading.{IsReading};
+ghost use Rattle.std.specs.Prelude.{◌≡◌, ◌↔◌, ◌<◌, ◌^◌, All, IsTrue, refl};
 
 use crate::fault::NumbersFault;
 use crate::plain::PlainNumbers;
-
-pub const MAX_NUMBERS: usize = 67_108_864;
+use bits::{MAX_LEN, StoredRow};
 
 // Whether each word is below 2^32.
 fn are_below(words: &[u64]) -> bool
-    ensures { result ≡ each_below 32 words.now }
+    ensures { IsTrue result ↔ All (λ word. word < 2 ^ 32) words.now }
 {
-    for word in words {
-        if *word > u32::MAX as u64 {
-            return false;
-        }
-    }
-    true
-}
-
-// How many words the row takes, or the first fault.
-pub fn check_plain_numbers(words: &[u64]) -> Result<usize, NumbersFault>
-    ensures answer { result ≡ plain_numbers_read words.now }
-    ensures row { TakesNumbers words.now result }
-    ensures found { FindsNumbers words.now result }
-{
-    if words.len() == 0 {
-        return Err(NumbersFault::Short);
-    }
-    if words[0] > MAX_NUMBERS as u64 {
-        return Err(NumbersFault::TooManyNumbers);
-    }
-    let end = 1 + words[0] as usize;
-    if words.len() < end {
-        return Err(NumbersFault::Short);
-    }
-    if !are_below(&words[1..end]) {
-        return Err(NumbersFault::WrongContent);
-    }
-    Ok(end)
+    words.iter().all(|word| *word <= u32::MAX as u64)
 }
 
 impl<'a> PlainNumbers<'a> {
-    // The row at the front of the words, or an empty one if there is none.
-    pub fn new(words: &'a [u64]) -> PlainNumbers<'a>
-        ensures numbers { plain_numbers result ≡ numbers_read (plain_numbers_read words.now) words.now }
-        ensures list { ReadsNumbers words.now (plain_numbers result) }
+    #[tactic(auto, unfolding(crate::specs::PlainNumberRows::plain_numbers_read))]
+    // The row at the front of the words, and how many of them it takes, or the first fault.
+    fn read(words: &'a [u64]) -> Result<(PlainNumbers<'a>, usize), NumbersFault>
+        ensures { IsReading plain_numbers (numbers_after words.now) (plain_numbers_read words.now) result }
     {
-        let Ok(end) = check_plain_numbers(words) else {
-            return PlainNumbers {
-                words: &words[0..0],
-            };
-        };
-        PlainNumbers {
-            words: &words[1..end],
+        let (count, rest) = words.split_first().ok_or(NumbersFault::Short)?;
+        if *count > MAX_LEN as u64 {
+            return Err(NumbersFault::TooManyNumbers);
         }
+        let numbers = rest.get(..*count as usize).ok_or(NumbersFault::Short)?;
+        if !are_below(numbers) {
+            return Err(NumbersFault::WrongContent);
+        }
+        Ok((PlainNumbers { words: numbers }, 1 + numbers.len()))
     }
+}
+
+impl<'a> StoredRow<'a> for PlainNumbers<'a> {
+    type Fault = NumbersFault;
+
+    ghost HasRow = { HasNumbers };
+
+    ghost words_of = { plain_number_words };
+
+    ghost room_of = { plain_numbers_room };
+
+    ghost items_in = { numbers_after };
+
+    ghost reading = { plain_numbers_read };
+
+    fn check(words: &[u64]) -> Result<usize, NumbersFault>
+        ensures answer { result ≡ plain_numbers_read words.now }
+        ensures row { TakesRow plain_number_words numbers_after words.now result }
+        ensures found { FindsRow HasNumbers plain_number_words plain_numbers_room words.now result }
+    {
+        let (_, end) = PlainNumbers::read(words)?;
+        Ok(end)
+    }
+
+    fn new(words: &'a [u64]) -> PlainNumbers<'a> {
+        let Ok((row, _)) = PlainNumbers::read(words) else {
+            return PlainNumbers { words: &[] };
+        };
+        row
+    }
+
+    ghost room = { λ numbers has. refl };
 }

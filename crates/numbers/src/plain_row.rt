@@ -2,19 +2,19 @@
 ghost use Rattle.numbers.specs.PlainMeaning.{plain_numbers};
 
 use crate::plain::PlainNumbers;
-use crate::row::NumberRow;
+use bits::Row;
 
-impl<'a> NumberRow for PlainNumbers<'a> {
-    ghost numbers = { plain_numbers };
+impl<'a> Row for PlainNumbers<'a> {
+    type Item = u32;
+
+    ghost items = { plain_numbers };
 
     fn len(&self) -> usize {
         self.words.len()
     }
 
-    fn number(&self, place: usize) -> Option<u32> {
-        if place >= self.words.len() {
-            return None;
-        }
-        Some(self.words[place] as u32)
+    fn get(&self, place: usize) -> Option<u32> {
+        let word = self.words.get(place)?;
+        Some(*word as u32)
     }
 }

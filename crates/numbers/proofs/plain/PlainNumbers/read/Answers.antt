@@ -1,0 +1,6 @@
+use Rattle.std.proofs.Common.{rules}
+use Rattle.numbers.proofs.PlainNumberLaws.{below_all}
+use Rattle.numbers.proofs.plain.PlainNumbers.read.Goals as goal
+
+pub invariant_of-result-clause-below : goal.invariant_of-result-clause-below
+invariant_of-result-clause-below c = below_all 32 c.in_ok-numbers.numbers.now (search rules)
