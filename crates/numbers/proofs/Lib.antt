@@ -1,5 +1,6 @@
 pub mod Fields
 pub mod NumberBits
-pub mod PackedReading
+pub mod PackedNumberLaws
+pub mod PackedPlaces
 pub mod PlainNumberLaws
 pub mod Widths

@@ -5,3 +5,4 @@ pub mod PackedNumberRows
 pub mod PlainMeaning
 pub mod PlainNumberRows
 pub mod Reading
+pub mod Rooms

@@ -5,6 +5,7 @@ ghost use Rattle.numbers.specs.NumbersIn.{largest_of};
 ghost use Rattle.numbers.specs.PackedMeaning.{packed_numbers};
 ghost use Rattle.numbers.specs.PackedNumberRows.{packed_read, numbers_packed};
 ghost use Rattle.numbers.specs.Reading.{IsReading};
+ghost use Rattle.numbers.specs.Rooms.{packed_takes};
 ghost use Rattle.std.specs.Prelude.{◌≡◌};
 
 use crate::fault::NumbersFault;
@@ -23,6 +24,7 @@ impl<'a> PackedNumbers<'a> {
     }
 
     // The row at the front of the words, and how many of them it takes, or the first fault.
+    #[tactic(auto, unfolding(crate::specs::PackedNumberRows::packed_read))]
     fn read(words: &'a [u64]) -> Result<(PackedNumbers<'a>, usize), NumbersFault>
         ensures { IsReading packed_numbers (numbers_packed words.now) (packed_read words.now) result }
     {
@@ -37,10 +39,9 @@ impl<'a> PackedNumbers<'a> {
         }
         let len = *count as usize;
         let width = *width as usize;
-        let content = rest
-            .get(..(width * len).div_ceil(64))
-            .ok_or(NumbersFault::Short)?;
-        if !BareBits::new(content, width * len).is_spare_zero() {
+        let bits = width * len;
+        let content = rest.get(..bits.div_ceil(64)).ok_or(NumbersFault::Short)?;
+        if !BareBits::new(content, bits).is_spare_zero() {
             return Err(NumbersFault::SpareBitSet);
         }
         let row = PackedNumbers {
@@ -78,15 +79,15 @@ impl<'a> StoredRow<'a> for PackedNumbers<'a> {
     }
 
     fn new(words: &'a [u64]) -> PackedNumbers<'a> {
-        match PackedNumbers::read(words) {
-            Ok((row, _)) => row,
-            Err(_) => PackedNumbers {
+        let Ok((row, _)) = PackedNumbers::read(words) else {
+            return PackedNumbers {
                 words: &[],
                 width: 1,
                 len: 0,
-            },
-        }
+            };
+        };
+        row
     }
 
-    ghost room = { ? };
+    ghost room = { packed_takes };
 }

@@ -30,10 +30,12 @@ impl<'a> Row for PackedNumbers<'a> {
 
     ghost items = { packed_numbers };
 
+    #[tactic(auto, using(crate::proofs::PackedPlaces::places))]
     fn len(&self) -> usize {
         self.len
     }
 
+    #[tactic(auto, using(crate::proofs::PackedPlaces::places))]
     fn get(&self, place: usize) -> Option<u32> {
         if place >= self.len {
             return None;

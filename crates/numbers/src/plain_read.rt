@@ -4,7 +4,8 @@ ghost use Rattle.numbers.specs.NumberWords.{HasNumbers, plain_number_words, plai
 ghost use Rattle.numbers.specs.PlainMeaning.{plain_numbers};
 ghost use Rattle.numbers.specs.PlainNumberRows.{plain_numbers_read, numbers_after};
 ghost use Rattle.numbers.specs.Reading.{IsReading};
-ghost use Rattle.std.specs.Prelude.{◌≡◌, ◌↔◌, ◌<◌, ◌^◌, All, IsTrue, refl};
+ghost use Rattle.numbers.specs.Rooms.{plain_takes};
+ghost use Rattle.std.specs.Prelude.{◌≡◌, ◌↔◌, ◌<◌, ◌^◌, All, IsTrue};
 
 use crate::fault::NumbersFault;
 use crate::plain::PlainNumbers;
@@ -18,12 +19,14 @@ fn are_below(words: &[u64]) -> bool
 }
 
 impl<'a> PlainNumbers<'a> {
-    #[tactic(auto, unfolding(crate::specs::PlainNumberRows::plain_numbers_read))]
     // The row at the front of the words, and how many of them it takes, or the first fault.
+    #[tactic(auto, unfolding(crate::specs::PlainNumberRows::plain_numbers_read))]
     fn read(words: &'a [u64]) -> Result<(PlainNumbers<'a>, usize), NumbersFault>
         ensures { IsReading plain_numbers (numbers_after words.now) (plain_numbers_read words.now) result }
     {
-        let (count, rest) = words.split_first().ok_or(NumbersFault::Short)?;
+        let [count, rest @ ..] = words else {
+            return Err(NumbersFault::Short);
+        };
         if *count > MAX_LEN as u64 {
             return Err(NumbersFault::TooManyNumbers);
         }
@@ -64,5 +67,5 @@ impl<'a> StoredRow<'a> for PlainNumbers<'a> {
         row
     }
 
-    ghost room = { λ numbers has. refl };
+    ghost room = { plain_takes };
 }
