@@ -1,4 +1,4 @@
-use Rattle.std.proofs.Common.{◌≡◌, ℕ, max, List, [], ◌∷◌, sym, refl, ap, ◌∙◌, arith, rules}
+use Rattle.std.proofs.Common.{◌≡◌, ℕ, max, List, [], ◌∷◌, sym, refl, ◌∙◌, arith, rules}
 use Rattle.std.specs.List.{fold, reduce}
 use Rattle.std.specs.Option.{unwrap_or}
 use Rattle.std.proofs.lemmas.Iterator.{YieldsList-from_map, YieldsList-from_range}
@@ -19,5 +19,7 @@ largest_is (n ∷ numbers) = largest_from n numbers
 pub returns : goal.returns
 returns c =
     let p = c.args.self.now in
-    let most = sym (option_map_id _) ∙ max_from_yields_List c.map.result c.max.result c.max.ensures.ran (YieldsList-from_map _ (number_in p.words.now p.width) (YieldsList-from_range 0 p.len p.len c.map.ensures.source (omega arith)) c.map.ensures.closure (λ x r q k. search rules)) in
-    c.unwrap_or.ensures ∙ ap (λ o. unwrap_or o 0) most ∙ largest_is (numbers_in p.words.now p.width p.len)
+    let numbers : List ℕ = numbers_in p.words.now p.width p.len in
+    let most : c.max.result ≡ reduce max numbers =
+    sym (option_map_id c.max.result) ∙ max_from_yields_List c.map.result c.max.result c.max.ensures.ran (YieldsList-from_map _ (number_in p.words.now p.width) (YieldsList-from_range 0 p.len p.len c.map.ensures.source (omega arith)) c.map.ensures.closure (λ x r q k. search rules)) in
+    cc (largest_is numbers)
