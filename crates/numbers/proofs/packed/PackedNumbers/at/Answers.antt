@@ -1,27 +1,15 @@
-use Rattle.std.proofs.Common.{◌≡◌, ℕ, ◌+◌, ◌-◌, ◌*◌, ◌/◌, ◌%◌, ◌^◌, ◌<◌, ◌≤◌, List, map, length, get_or, ap, ◌∙◌, mod-lt, mul_comm, arith, pow_pos, pow_mono}
+use Rattle.std.proofs.Common.{◌≡◌, ℕ, ◌+◌, ◌-◌, ◌*◌, ◌/◌, ◌%◌, ◌^◌, ◌<◌, List, map, get_or, ap, ◌∙◌, mul_comm, arith}
 use lib.Bits.{bit_and, bit_or}
 use Rattle.std.specs.List.{range_with_len}
-use Rattle.std.proofs.lemmas.Nat.{and_mask, one_shl, mul-le}
+use Rattle.std.proofs.lemmas.Nat.{and_mask, one_shl}
 use Rattle.bits.specs.Words.{bit_at, number_of}
 use Rattle.numbers.specs.NumbersIn.{number_in}
 use Rattle.numbers.proofs.Fields.{field_in_one, field_in_two}
 use Rattle.numbers.proofs.packed.PackedNumbers.at.Goals as goal
 
--- the bits of a number of the row are bits of the row
-inside : (w i len room : ℕ) → i < len → w * len ≤ room → i * w + w ≤ room
-inside w i len room h within =
-    let more : (i + 1) * w ≤ len * w = mul-le (i + 1) w len w (omega arith) (omega arith) in
-    let turned : len * w ≡ w * len = mul_comm len w in
-    let parts : (i + 1) * w ≡ i * w + w = omega arith in
-    omega arith
-
 -- a mask of w bits keeps the low ones
 masked : (w n m : ℕ) → m ≡ 2 ^ w - 1 → bit_and n m ≡ n % 2 ^ w
 masked w n m is = ap (bit_and n) is ∙ and_mask n w
-
--- which fit into 32 bits
-fits_32 : (w n : ℕ) → w ≤ 32 → n % 2 ^ w < 2 ^ 32
-fits_32 w n h = let grows : 2 ^ w ≤ 2 ^ 32 = pow_mono h in omega (arith, mod-lt n (pow_pos w))
 
 -- the bits from the number's place on
 placed : (ws : List ℕ) (w i : ℕ) → number_of (map (λ j. bit_at ws (64 * (i * w / 64) + i * w % 64 + j)) (range_with_len 0 w)) ≡ number_in ws w i
@@ -29,11 +17,6 @@ unfolding number_in
 placed ws w i =
     let whole : 64 * (i * w / 64) + i * w % 64 ≡ i * w = omega arith in
     ap (λ at. number_of (map (λ j. bit_at ws (at + j)) (range_with_len 0 w))) (whole ∙ mul_comm i w)
-
-pub bounds-self-word : goal.bounds-self-word
-bounds-self-word c =
-    let p = c.args.self.now in
-    omega (arith, inside p.width c.args.place p.len (64 * length p.words.now) c.requires p.within, p.wide)
 
 pub returns-then-shift-self-le64 : goal.returns-then-shift-self-le64
 returns-then-shift-self-le64 c =
@@ -44,21 +27,6 @@ returns-then-shift-self-le64 c =
     masked w (get_or ws (i * w / 64) 0 / 2 ^ (i * w % 64)) _ (omega (arith, one_shl w 64 (omega arith)))
     ∙ field_in_one ws w (i * w / 64) (i * w % 64) (omega arith)
     ∙ placed ws w i
-
-pub bounds-self-word-2 : goal.bounds-self-word-2
-bounds-self-word-2 c =
-    let p = c.args.self.now in
-    omega (arith, inside p.width c.args.place p.len (64 * length p.words.now) c.requires p.within)
-
-pub overflow_cast-result-2 : goal.overflow_cast-result-2
-overflow_cast-result-2 c =
-    let p = c.args.self.now in
-    let ws = p.words.now in
-    let w = p.width in
-    let i = c.args.place in
-    let y : ℕ = bit_or (get_or ws (i * w / 64 + 1) 0 * 2 ^ (64 - i * w % 64) % 2 ^ 64) (get_or ws (i * w / 64) 0 / 2 ^ (i * w % 64)) in
-    let e : bit_and y (1 * 2 ^ w % 2 ^ 64 - 1) ≡ y % 2 ^ w = masked w y (1 * 2 ^ w % 2 ^ 64 - 1) (omega (arith, one_shl w 64 (omega arith))) in
-    omega (arith, e, fits_32 w y p.narrow)
 
 pub returns : goal.returns
 returns c =
