@@ -1,5 +1,5 @@
 -- The bits of packed numbers, and the numbers of packed bits. Assumes nothing.
-use Rattle.std.proofs.Common.{◌≡◌, ℕ, suc, ◌+◌, ◌*◌, ◌/◌, ◌%◌, ◌^◌, ◌<◌, ◌≤◌, Bool, true, false, ltb, List, [], ◌∷◌, map, length, get_or, sym, refl, ap, ◌∙◌, subst, mul_comm, arith}
+use Rattle.std.proofs.Common.{◌≡◌, ℕ, suc, ◌+◌, ◌*◌, ◌/◌, ◌%◌, ◌^◌, ◌<◌, ◌≤◌, Bool, true, false, ltb, List, [], ◌∷◌, map, length, get_or, sym, refl, ap, ◌∙◌, mul_comm, arith}
 use Rattle.std.specs.List.{range_with_len}
 use Rattle.std.proofs.lemmas.Nat.{div_below, mod_below, div-add-mod', div-mul-add, mod-mul-add, mul-add-lt}
 use Rattle.std.proofs.lemmas.List.FromFn.{length-map-range_with_len, get_or-map-range_with_len, fill_by_all}
@@ -28,16 +28,14 @@ module _ (ws : List ℕ) (w : ℕ) where
 
   pub number_below : (i : ℕ) → number_in ws w i < 2 ^ w
   unfolding number_in
-  number_below i =
-      let bits : List Bool = map (λ j. bit_at ws (w * i + j)) (range_with_len 0 w) in
-      subst (λ k. number_of bits < 2 ^ k) (length-map-range_with_len (λ j. bit_at ws (w * i + j)) 0 w) (number_lt bits)
+  number_below i = rw length-map-range_with_len at (number_lt (map (λ j. bit_at ws (w * i + j)) (range_with_len 0 w)))
 
   pub numbers_below : (n : ℕ) → each_below w (numbers_in ws w n) ≡ true
   numbers_below n =
       each_from_places (λ x. ltb x (2 ^ w)) (numbers_in ws w n) 0
       (λ i h.
       let within : i < n = omega (arith, length-map-range_with_len (number_in ws w) 0 n) in
-      ap (λ x. ltb x (2 ^ w)) (get_or-map-range_with_len (number_in ws w) 0 n i i 0 within (omega arith)) ∙ lt-ltb (number_in ws w i) (2 ^ w) (number_below i))
+      rw (get_or-map-range_with_len (number_in ws w) 0 n i i 0 within (omega arith)) (lt-ltb _ _ (number_below i)))
 
   -- their bits are those of the words
   pub bits_of_numbers : 0 < w → (n : ℕ) → number_bits w (numbers_in ws w n) ≡ bits_in ws (w * n)

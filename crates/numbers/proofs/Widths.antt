@@ -1,27 +1,16 @@
 -- The width at which each of some numbers has room. Assumes nothing.
-use Rattle.std.proofs.Common.{◌≡◌, ℕ, ◌-◌, ◌^◌, ◌<◌, ◌≤◌, max, Bool, true, false, ◌&&◌, ltb, List, [], ◌∷◌, Some, None, Option, sym, refl, ap, ◌∙◌, ⊎_elim, arith, pow_pos, pow_mono}
-use Rattle.std.proofs.lemmas.Bool.{cases_lt, lt-ltb, le-ltb, both_ways}
+use Rattle.std.proofs.Common.{◌≡◌, ℕ, ◌-◌, ◌^◌, ◌<◌, ◌≤◌, Bool, true, false, ltb, List, [], ◌∷◌, Some, None, Option, sym, refl, ap, ◌∙◌, ⊎_elim, arith, pow_pos, pow_mono}
+use Rattle.std.proofs.lemmas.Bool.{cases_lt, lt-ltb, le-ltb}
+use Rattle.std.proofs.lemmas.Bool.Decides.{nat_tests}
 use Rattle.ordered.specs.Lists.{first_place}
 use Rattle.bits.proofs.FirstPlace.{first_is, first_not, first_found, none_before}
 use Rattle.numbers.specs.NumberWords.{each_below, width_of, or_else}
 use Rattle.numbers.specs.NumbersIn.{largest_of}
 
 -- each number is below a power exactly if the largest is
-pub each_largest : (v : ℕ) (numbers : List ℕ) → each_below v numbers ≡ ltb (largest_of numbers) (2 ^ v)
+each_largest : (v : ℕ) (numbers : List ℕ) → each_below v numbers ≡ ltb (largest_of numbers) (2 ^ v)
 each_largest v [] = sym (lt-ltb 0 (2 ^ v) (pow_pos v))
-each_largest v (n ∷ numbers) =
-    let rest = each_largest v numbers in
-    let most : ℕ = largest_of numbers in
-    ⊎_elim
-    (λ l.
-    ap (λ b. b && each_below v numbers) (lt-ltb n (2 ^ v) l)
-    ∙ rest
-    ∙ ⊎_elim
-    (λ m. lt-ltb most (2 ^ v) m ∙ sym (lt-ltb (max n most) (2 ^ v) (omega arith)))
-    (λ m. le-ltb most (2 ^ v) m ∙ sym (le-ltb (max n most) (2 ^ v) (omega arith)))
-    (cases_lt most (2 ^ v)))
-    (λ l. ap (λ b. b && each_below v numbers) (le-ltb n (2 ^ v) l) ∙ sym (le-ltb (max n most) (2 ^ v) (omega arith)))
-    (cases_lt n (2 ^ v))
+each_largest v (n ∷ numbers) = grind (arith, nat_tests, each_largest v numbers)
 
 module _ (numbers : List ℕ) where
   abbrev test : ℕ → Bool
@@ -47,24 +36,15 @@ module _ (numbers : List ℕ) where
   unfolding width_of
   width_holds below = go (first_place test 1 31) refl
     where
-      go : (o : Option ℕ) → first_place test 1 31 ≡ o → (1 ≤ or_else (first_place test 1 31) 32) × (or_else (first_place test 1 31) 32 ≤ 32) × (each_below (or_else (first_place test 1 31) 32) numbers ≡ true)
-      go None e =
-          let is : or_else (first_place test 1 31) 32 ≡ 32 = ap (λ o. or_else o 32) e in
-          (omega arith, omega arith, ap test is ∙ below)
-      go (Some p) e =
-          let is : or_else (first_place test 1 31) 32 ≡ p = ap (λ o. or_else o 32) e in
-          let found = first_found test 1 31 p e in
-          (omega (arith, found.0), omega (arith, found.1), ap test is ∙ found.3)
+      go : (o : Option ℕ) → first_place test 1 31 ≡ o → (1 ≤ or_else o 32) × (or_else o 32 ≤ 32) × (each_below (or_else o 32) numbers ≡ true)
+      go None e = (omega arith, omega arith, below)
+      go (Some p) e = let found = first_found test 1 31 p e in (found.0, omega (arith, found.1), found.3)
 
   -- and it is the least such width
   pub width_least : (w : ℕ) → 1 ≤ w → w ≤ 32 → each_below w numbers ≡ true → width_of numbers ≤ w
   unfolding width_of
   width_least w wide narrow below = go (first_place test 1 31) refl
     where
-      go : (o : Option ℕ) → first_place test 1 31 ≡ o → or_else (first_place test 1 31) 32 ≤ w
-      go None e =
-          let is : or_else (first_place test 1 31) 32 ≡ 32 = ap (λ o. or_else o 32) e in
-          ⊎_elim (λ l. absurd (both_ways (test w) (none_before test 1 31 e w wide (omega arith)) below)) (λ l. omega arith) (cases_lt w 32)
-      go (Some p) e =
-          let is : or_else (first_place test 1 31) 32 ≡ p = ap (λ o. or_else o 32) e in
-          ⊎_elim (λ l. absurd (both_ways (test w) ((first_found test 1 31 p e).2 w wide l) below)) (λ l. omega arith) (cases_lt w p)
+      go : (o : Option ℕ) → first_place test 1 31 ≡ o → or_else o 32 ≤ w
+      go None e = grind (arith, none_before test 1 31 e w wide)
+      go (Some p) e = grind (arith, (first_found test 1 31 p e).2 w wide)

@@ -1,4 +1,4 @@
-use Rattle.std.proofs.Common.{◌≡◌, ℕ, suc, ◌+◌, ◌-◌, ◌*◌, ◌^◌, ◌<◌, ◌≤◌, max, List, [], ◌∷◌, sym, ap, ◌∙◌, arith, pow_mono}
+use Rattle.std.proofs.Common.{◌≡◌, ℕ, suc, ◌-◌, ◌*◌, ◌^◌, ◌<◌, ◌≤◌, max, List, [], ◌∷◌, ap, arith, pow_mono}
 use lib.Count.{count_leading_zeros}
 use Rattle.std.proofs.lemmas.Nat.{leading_length}
 use Rattle.numbers.specs.NumberWords.{width_of}
@@ -9,21 +9,12 @@ use Rattle.numbers.proofs.width.width_of.Goals as goal
 by_zeros : (a r : ℕ) → a < 2 ^ 32 → r ≡ max (32 - count_leading_zeros 32 a) 1 → (numbers : List ℕ) → largest_of numbers ≡ a → r ≡ width_of numbers
 by_zeros a r fits is numbers largest =
     let l = leading_length 32 a fits in
-    let m : ℕ = l.0 in
-    let whole : count_leading_zeros 32 a + m ≡ 32 = l.1 in
-    let room : a < 2 ^ m = l.2 in
-    let tight : 2 ^ m ≤ 2 * a + 1 = l.3 in
-    let grows : 2 ^ m ≤ 2 ^ r = pow_mono (omega arith) in
-    width_is numbers r (omega arith) (omega arith) (omega arith)
+    let grows : 2 ^ l.0 ≤ 2 ^ r = pow_mono (omega (arith, l.1)) in
+    width_is numbers r (omega arith) (omega (arith, l.1)) (omega (arith, l.2))
     (λ more.
-    let e : r ≡ m = omega arith in
-    let f : suc (r - 1) ≡ r = omega arith in
-    let double : 2 ^ r ≡ 2 * 2 ^ (r - 1) = ap (λ k. 2 ^ k) (sym f) ∙ twice (r - 1) in
-    let same : 2 ^ r ≡ 2 ^ m = ap (λ k. 2 ^ k) e in
-    omega arith)
-  where
-    twice : (k : ℕ) → 2 ^ suc k ≡ 2 * 2 ^ k
-    twice k = omega arith
+    let double : 2 ^ suc (r - 1) ≡ 2 * 2 ^ (r - 1) = omega arith in
+    let same : 2 ^ suc (r - 1) ≡ 2 ^ l.0 = ap (λ k. 2 ^ k) (omega (arith, l.1)) in
+    omega (arith, l.3))
 
 pub returns : goal.returns
 returns c =
