@@ -35,6 +35,9 @@ returns c =
     let w = p.width in
     let i = c.args.place in
     let fits : get_or ws (i * w / 64) 0 < 2 ^ 64 = omega arith in
-    masked w (bit_or (get_or ws (i * w / 64 + 1) 0 * 2 ^ (64 - i * w % 64) % 2 ^ 64) (get_or ws (i * w / 64) 0 / 2 ^ (i * w % 64))) _ (omega (arith, one_shl w 64 (omega arith)))
+    let y : ℕ = bit_or (get_or ws (i * w / 64 + 1) 0 * 2 ^ (64 - i * w % 64) % 2 ^ 64) (get_or ws (i * w / 64) 0 / 2 ^ (i * w % 64)) in
+    let is : bit_and y (1 * 2 ^ w % 2 ^ 64 - 1) ≡ number_in ws w i =
+    masked w y _ (omega (arith, one_shl w 64 (omega arith)))
     ∙ field_in_two ws w (i * w / 64) (i * w % 64) (omega arith) (omega arith) fits
-    ∙ placed ws w i
+    ∙ placed ws w i in
+    omega (arith, is)
