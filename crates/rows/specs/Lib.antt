@@ -1,2 +1,1 @@
-pub mod BitRows
-pub mod NumberRows
+pub mod AnyRows

@@ -1,17 +1,9 @@
 // The kinds of rows.
 
 #[derive(Clone, Copy, PartialEq, Eq, Debug)]
-pub enum BitsKind {
-    // Plain bits, with a directory.
+pub enum RowKind {
+    // Bits with a directory, or one word for each number.
     Plain,
-    // Runs of ones.
-    Runs,
-}
-
-#[derive(Clone, Copy, PartialEq, Eq, Debug)]
-pub enum NumbersKind {
-    // One word for each number.
-    Plain,
-    // The numbers at the least width.
-    Packed,
+    // Runs of ones, or the numbers at the least width.
+    Compact,
 }

@@ -1,10 +1,14 @@
 // Rows of which the kind is known only at run time.
 #![tactic(auto)]
 
+mod any_answers;
 mod any_bits;
 mod any_numbers;
+mod any_read;
+mod any_row;
 mod kinds;
 
 pub use any_bits::AnyBits;
 pub use any_numbers::AnyNumbers;
-pub use kinds::{BitsKind, NumbersKind};
+pub use any_row::AnyRow;
+pub use kinds::RowKind;
