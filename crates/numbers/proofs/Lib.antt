@@ -3,4 +3,5 @@ pub mod NumberBits
 pub mod PackedNumberLaws
 pub mod PackedPlaces
 pub mod PlainNumberLaws
+pub mod StoredLaws
 pub mod Widths

@@ -1,5 +1,5 @@
 -- What is read of packed numbers: the words of a list of numbers, and of the words of every such list. Assumes nothing.
-use Rattle.std.proofs.Common.{◌≡◌, ℕ, suc, ◌+◌, ◌*◌, ◌^◌, ◌<◌, ◌≤◌, Bool, true, false, List, [], ◌∷◌, ◌++◌, length, get_or, take, drop, Ok, Result, sym, refl, ap, ◌∙◌, arith}
+use Rattle.std.proofs.Common.{◌≡◌, ℕ, suc, ◌+◌, ◌*◌, ◌^◌, ◌<◌, ◌≤◌, Bool, true, false, List, [], ◌∷◌, ◌++◌, length, get_or, take, drop, Ok, Result, sym, ap, ◌∙◌, arith}
 use Rattle.std.proofs.lemmas.Bool.Decides.{nat_tests}
 use Rattle.std.proofs.lemmas.List.FromFn.{length-map-range_with_len}
 use Rattle.std.proofs.lemmas.List.{length-append, length-drop, length-take-le, get_or-take, get_or-drop, get_or_past, take_at}
@@ -13,6 +13,7 @@ use Rattle.numbers.specs.NumbersIn.{number_in, numbers_in}
 use Rattle.numbers.specs.PackedNumberRows.{packed_read, count_of, width_in, content_words, numbers_packed}
 use Rattle.numbers.specs.declared.fault.NumbersFault.{NumbersFault}
 use Rattle.numbers.proofs.NumberBits.{numbers_below, bits_of_numbers, bits_long, numbers_there}
+use Rattle.numbers.proofs.StoredLaws.{takes_row, finds_row, reads_row}
 use Rattle.numbers.proofs.Widths.{width_holds, width_least}
 
 -- what is so of words of which a row was read
@@ -96,17 +97,11 @@ module _ (numbers rest : List ℕ) (has : HasNumbers numbers) where
       let long = length-append (packed_bits bits) rest in
       grind (arith, nat_tests, held, has, long, packed_long, content_there, zeros_there, again)
 
-module _ (ws : List ℕ) (r : Result ℕ NumbersFault) (is : r ≡ packed_read ws) where
-  pub takes : ((i : ℕ) → get_or ws i 0 < 2 ^ 64) → TakesRow packed_words numbers_packed ws r
-  takes fits n e = taken ws fits n (sym e ∙ is) ∙ ap (λ r. packed_words (items_read numbers_packed r ws)) (sym e)
+pub takes : (ws : List ℕ) (r : Result ℕ NumbersFault) → r ≡ packed_read ws → ((i : ℕ) → get_or ws i 0 < 2 ^ 64) → TakesRow packed_words numbers_packed ws r
+takes ws r is fits = takes_row packed_words numbers_packed packed_read ws (taken ws fits) r is
 
-  pub finds : FindsRow HasNumbers packed_words packed_numbers_room ws r
-  finds numbers rest has e = is ∙ ap packed_read e ∙ sym (found numbers rest has)
+pub finds : (ws : List ℕ) (r : Result ℕ NumbersFault) → r ≡ packed_read ws → FindsRow HasNumbers packed_words packed_numbers_room ws r
+finds = finds_row packed_words numbers_packed packed_read HasNumbers packed_numbers_room found
 
--- and so is what is read
 pub reads : (ws read : List ℕ) → read ≡ items_read numbers_packed (packed_read ws) ws → ReadsRow HasNumbers packed_words ws read
-reads ws read is numbers rest has e =
-    is
-    ∙ ap (λ r. items_read numbers_packed r ws) (finds ws (packed_read ws) refl numbers rest has e)
-    ∙ ap numbers_packed e
-    ∙ again numbers rest has
+reads = reads_row packed_words numbers_packed packed_read HasNumbers packed_numbers_room found again

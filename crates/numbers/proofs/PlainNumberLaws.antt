@@ -1,10 +1,11 @@
 -- What is read of plain numbers: the words of a list of numbers, and of the words of every such list. Assumes nothing.
-use Rattle.std.proofs.Common.{◌≡◌, ℕ, suc, ◌<◌, ◌≤◌, ◌^◌, true, ltb, List, [], ◌∷◌, ◌++◌, length, take, All, Ok, Result, sym, refl, ap, ◌∙◌, arith}
+use Rattle.std.proofs.Common.{◌≡◌, ℕ, suc, ◌<◌, ◌≤◌, ◌^◌, true, ltb, List, [], ◌∷◌, ◌++◌, length, take, All, Ok, Result, sym, refl, ap, arith}
 use Rattle.std.proofs.lemmas.Bool.Decides.{nat_tests}
 use Rattle.std.proofs.lemmas.List.{length-append, length-take-le, take_at}
 use Rattle.std.proofs.lemmas.Bool.{lt-ltb}
 use Rattle.ordered.proofs.Lists.{each_from_places}
 use Rattle.bits.specs.StoredRows.{FindsRow, TakesRow, ReadsRow, items_read}
+use Rattle.numbers.proofs.StoredLaws.{takes_row, finds_row, reads_row}
 use Rattle.numbers.specs.NumberWords.{each_below, HasNumbers, plain_number_words, plain_numbers_room}
 use Rattle.numbers.specs.declared.fault.NumbersFault.{NumbersFault}
 use Rattle.numbers.specs.PlainNumberRows.{plain_numbers_read, numbers_after}
@@ -27,20 +28,14 @@ found : (numbers rest : List ℕ) → HasNumbers numbers → Ok (plain_numbers_r
 unfolding plain_numbers_read
 found numbers rest has = grind (arith, nat_tests, length-append, take_at)
 
-again : (numbers rest : List ℕ) → numbers_after (plain_number_words numbers ++ rest) ≡ numbers
-again numbers rest = take_at numbers rest (length numbers) refl
+again : (numbers rest : List ℕ) → HasNumbers numbers → numbers_after (plain_number_words numbers ++ rest) ≡ numbers
+again numbers rest has = take_at numbers rest (length numbers) refl
 
-module _ (ws : List ℕ) (r : Result ℕ NumbersFault) (is : r ≡ plain_numbers_read ws) where
-  pub takes : TakesRow plain_number_words numbers_after ws r
-  takes n e = taken ws n (sym e ∙ is) ∙ ap (λ r. plain_number_words (items_read numbers_after r ws)) (sym e)
+pub takes : (ws : List ℕ) (r : Result ℕ NumbersFault) → r ≡ plain_numbers_read ws → TakesRow plain_number_words numbers_after ws r
+takes ws = takes_row plain_number_words numbers_after plain_numbers_read ws (taken ws)
 
-  pub finds : FindsRow HasNumbers plain_number_words plain_numbers_room ws r
-  finds numbers rest has e = is ∙ ap plain_numbers_read e ∙ sym (found numbers rest has)
+pub finds : (ws : List ℕ) (r : Result ℕ NumbersFault) → r ≡ plain_numbers_read ws → FindsRow HasNumbers plain_number_words plain_numbers_room ws r
+finds = finds_row plain_number_words numbers_after plain_numbers_read HasNumbers plain_numbers_room found
 
--- and so is what is read
 pub reads : (ws read : List ℕ) → read ≡ items_read numbers_after (plain_numbers_read ws) ws → ReadsRow HasNumbers plain_number_words ws read
-reads ws read is numbers rest has e =
-    is
-    ∙ ap (λ r. items_read numbers_after r ws) (finds ws (plain_numbers_read ws) refl numbers rest has e)
-    ∙ ap numbers_after e
-    ∙ again numbers rest
+reads = reads_row plain_number_words numbers_after plain_numbers_read HasNumbers plain_numbers_room found again
