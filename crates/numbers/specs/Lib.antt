@@ -4,5 +4,4 @@ pub mod PackedMeaning
 pub mod PackedNumberRows
 pub mod PlainMeaning
 pub mod PlainNumberRows
-pub mod Reading
 pub mod Rooms

@@ -4,9 +4,9 @@ ghost use Rattle.numbers.specs.NumberWords.{HasNumbers, packed_words, packed_num
 ghost use Rattle.numbers.specs.NumbersIn.{largest_of};
 ghost use Rattle.numbers.specs.PackedMeaning.{packed_numbers};
 ghost use Rattle.numbers.specs.PackedNumberRows.{packed_read, numbers_packed};
-ghost use Rattle.numbers.specs.Reading.{IsReading};
 ghost use Rattle.numbers.specs.Rooms.{packed_takes};
-ghost use Rattle.std.specs.Prelude.{◌≡◌};
+ghost use Rattle.std.specs.Prelude.{◌≡◌, IfOk};
+ghost use Rattle.std.specs.Result.{result_map_both};
 
 use crate::fault::NumbersFault;
 use crate::packed::PackedNumbers;
@@ -26,7 +26,8 @@ impl<'a> PackedNumbers<'a> {
     // The row at the front of the words, and how many of them it takes, or the first fault.
     #[tactic(auto, unfolding(crate::specs::PackedNumberRows::packed_read))]
     fn read(words: &'a [u64]) -> Result<(PackedNumbers<'a>, usize), NumbersFault>
-        ensures { IsReading packed_numbers (numbers_packed words.now) (packed_read words.now) result }
+        ensures room { result_map_both (λ read. read.1) (λ fault. fault) result ≡ packed_read words.now }
+        ensures numbers { IfOk result (λ read. packed_numbers read.0 ≡ numbers_packed words.now) }
     {
         let [count, width, rest @ ..] = words else {
             return Err(NumbersFault::Short);

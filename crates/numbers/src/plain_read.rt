@@ -3,9 +3,9 @@ ghost use Rattle.bits.specs.StoredRows.{FindsRow, TakesRow};
 ghost use Rattle.numbers.specs.NumberWords.{HasNumbers, plain_number_words, plain_numbers_room};
 ghost use Rattle.numbers.specs.PlainMeaning.{plain_numbers};
 ghost use Rattle.numbers.specs.PlainNumberRows.{plain_numbers_read, numbers_after};
-ghost use Rattle.numbers.specs.Reading.{IsReading};
 ghost use Rattle.numbers.specs.Rooms.{plain_takes};
-ghost use Rattle.std.specs.Prelude.{◌≡◌, ◌↔◌, ◌<◌, ◌^◌, All, IsTrue};
+ghost use Rattle.std.specs.Prelude.{◌≡◌, ◌↔◌, ◌<◌, ◌^◌, All, IfOk, IsTrue};
+ghost use Rattle.std.specs.Result.{result_map_both};
 
 use crate::fault::NumbersFault;
 use crate::plain::PlainNumbers;
@@ -22,7 +22,8 @@ impl<'a> PlainNumbers<'a> {
     // The row at the front of the words, and how many of them it takes, or the first fault.
     #[tactic(auto, unfolding(crate::specs::PlainNumberRows::plain_numbers_read))]
     fn read(words: &'a [u64]) -> Result<(PlainNumbers<'a>, usize), NumbersFault>
-        ensures { IsReading plain_numbers (numbers_after words.now) (plain_numbers_read words.now) result }
+        ensures room { result_map_both (λ read. read.1) (λ fault. fault) result ≡ plain_numbers_read words.now }
+        ensures numbers { IfOk result (λ read. plain_numbers read.0 ≡ numbers_after words.now) }
     {
         let [count, rest @ ..] = words else {
             return Err(NumbersFault::Short);

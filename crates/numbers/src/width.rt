@@ -8,5 +8,5 @@ pub fn width_of(largest: u32) -> u32
     ensures alone { result ≡ width_of (largest ∷ []) }
     ensures list { IsWidth largest result }
 {
-    (32 - largest.leading_zeros()).max(1)
+    (u32::BITS - largest.leading_zeros()).max(1)
 }

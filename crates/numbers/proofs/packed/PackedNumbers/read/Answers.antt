@@ -42,4 +42,4 @@ returns c =
     let content : c.in_ok-content.content.now ≡ content_words c.args.words.now = grind (arith, common_steps) in
     let spare = spare_is c.args.words.now _ _ content (omega arith) c.new-2.result true (grind (arith, common_steps)) c.new-2.ensures.bits c.new-2.ensures.words c.if-not-is_spare_zero.ensures in
     let width = width_is c.args.words.now _ _ content (omega arith) c.largest.result c.width_of.result c.largest.ensures c.width_of.ensures.list in
-    (numbers_are c.args.words.now _ _ content (omega arith), grind (arith, nat_tests, common_steps, content, spare, width))
+    record { room = grind (arith, nat_tests, common_steps, content, spare, width); numbers = numbers_are c.args.words.now _ _ content (omega arith) }

@@ -6,7 +6,7 @@ pub returns-in_err-end-clause-found : goal.returns-in_err-end-clause-found
 returns-in_err-end-clause-found c = finds c.args.words.now c.from_residual.result (search rules)
 
 pub returns-clause-row : goal.returns-clause-row
-returns-clause-row c = takes c.args.words.now (Ok c.in_ok-end.end) c.in_ok-end.ensures.1
+returns-clause-row c = takes c.args.words.now (Ok c.in_ok-end.end) c.in_ok-end.ensures.room
 
 pub returns-clause-found : goal.returns-clause-found
-returns-clause-found c = finds c.args.words.now (Ok c.in_ok-end.end) c.in_ok-end.ensures.1
+returns-clause-found c = finds c.args.words.now (Ok c.in_ok-end.end) c.in_ok-end.ensures.room
