@@ -3,6 +3,6 @@ pub mod Following
 pub mod Halving
 pub mod Ones
 pub mod PlainReading
-pub mod PlainRowFound
 pub mod PlainRowLaws
-pub mod PlainRowWords
+pub mod Stretches
+pub mod Tested

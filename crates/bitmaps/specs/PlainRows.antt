@@ -1,5 +1,5 @@
 -- The words of a row of plain bits, and what reading such words answers. Assumes nothing.
-use Rattle.std.specs.Prelude.{◌≡◌, ℕ, ◌+◌, ◌*◌, ◌/◌, ◌≤◌, Bool, cond, not, List, [], ◌∷◌, ◌++◌, map, length, take, drop, Ok, Err, Result, ◌==◌, nat_eq, nat_lt, slice_index}
+use Rattle.std.specs.Prelude.{ℕ, ◌+◌, ◌*◌, ◌/◌, Bool, cond, not, List, ◌∷◌, ◌++◌, map, length, take, drop, Ok, Err, Result, ◌==◌, nat_eq, nat_lt, slice_index}
 use Rattle.std.specs.List.{range_with_len}
 use Rattle.ordered.specs.Lists.{each}
 use Rattle.bits.specs.Words.{bits_in, words_for, packed_bits, spare_zero}
@@ -44,19 +44,6 @@ plain_read ws =
     (cond (not (tells_ones (bit_words ws) (directory_words ws))) (Err WrongContent)
     (Ok (plain_room (slice_index ws 0)))))))
 
--- the bits of the row at the front of the words, or none if there is no row
-abbrev pub bits_read : Result ℕ BitsFault → List ℕ → List Bool
-bits_read (Ok n) ws = bits_in (bit_words ws) (slice_index ws 0)
-bits_read (Err fault) ws = []
-
--- a reading takes the words of the bits that it reads
-abbrev pub TakesRow : List ℕ → Result ℕ BitsFault → Type 0
-TakesRow ws r = (n : ℕ) → r ≡ Ok n → take n ws ≡ plain_words (bits_read r ws)
-
--- and it takes the words of any list of so few bits, whatever follows them
-abbrev pub FindsRow : List ℕ → Result ℕ BitsFault → Type 0
-FindsRow ws r = (bits : List Bool) (rest : List ℕ) → length bits ≤ 67108864 → ws ≡ plain_words bits ++ rest → r ≡ Ok (plain_room (length bits))
-
--- and what is then read are these bits
-abbrev pub ReadsRow : List ℕ → List Bool → Type 0
-ReadsRow ws read = (bits : List Bool) (rest : List ℕ) → length bits ≤ 67108864 → ws ≡ plain_words bits ++ rest → read ≡ bits
+-- the bits of the row at the front of the words
+abbrev pub plain_bits_in : List ℕ → List Bool
+plain_bits_in ws = bits_in (bit_words ws) (slice_index ws 0)

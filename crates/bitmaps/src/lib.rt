@@ -8,9 +8,8 @@ mod plain;
 mod plain_bitmap;
 mod plain_check;
 mod plain_read;
-mod scan;
+mod stretch;
 
 pub use bitmap::CountedBitmap;
 pub use fault::BitsFault;
 pub use plain::PlainBits;
-pub use plain_read::{MAX_BITS, check_plain_bits};

@@ -9,7 +9,7 @@ pub struct PlainBits<'a> {
     pub(crate) directory: &'a [u64],
     pub(crate) len: usize,
     ghost small: { len ≤ 67108864 },
-    ghost within: { len ≤ 64 * length words.now },
+    ghost held: { length words.now ≡ (len + 63) / 64 },
     ghost spare: { (k : ℕ) → len ≤ k → bit_at words.now k ≡ false },
     ghost begun: { length directory.now ≡ (len + 511) / 512 },
     ghost counts: { (b : ℕ) → 512 * b < len → slice_index directory.now b ≡ ones_of (bits_in words.now (512 * b)) },

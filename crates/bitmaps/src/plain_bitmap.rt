@@ -1,129 +1,101 @@
 // Reading plain bits, and counting in them.
-ghost use Rattle.bitmaps.specs.Counts.{ones_of, rank_of, select_of, following_of};
+ghost use Rattle.bitmaps.specs.Counts.{ones_of};
 ghost use Rattle.bitmaps.specs.PlainMeaning.{plain_bits};
 ghost use Rattle.bits.specs.Words.{bit_at, bits_in};
 ghost use Rattle.ordered.specs.Lists.{first_place};
-ghost use Rattle.std.specs.Prelude.{◌≡◌, ◌+◌, ◌-◌, ◌*◌, ◌/◌, ◌<◌, ◌≤◌, min, length, slice_index};
+ghost use Rattle.ordered.specs.Order.{first_not_below};
+ghost use Rattle.std.specs.Prelude.{◌≡◌, ◌-◌, ◌*◌, ◌%◌, ◌<◌, ◌≤◌, length, IfSome, SomeIff, nat_lt, slice_index};
 
 use crate::bitmap::CountedBitmap;
-use crate::nth::nth_one;
 use crate::plain::PlainBits;
-use crate::scan::first_one;
-use bits::{BareBits, BitRow};
+use crate::stretch::{block_from, first_one, nth_in, ones_in};
+use bits::{BareBits, Row};
 use ordered::OrderedList;
 
-impl<'a> BitRow for PlainBits<'a> {
-    ghost bits = { plain_bits };
+impl<'a> Row for PlainBits<'a> {
+    type Item = bool;
+
+    ghost items = { plain_bits };
 
     fn len(&self) -> usize {
         self.len
     }
 
-    fn bit(&self, place: usize) -> Option<bool> {
-        BareBits::new(self.words, self.len).bit(place)
+    fn get(&self, place: usize) -> Option<bool> {
+        BareBits::new(self.words, self.len).get(place)
     }
 }
 
 impl<'a> PlainBits<'a> {
-    // How many of the first bits are ones, where there are so many and more than none.
+    // How many of the first bits are ones.
     fn count(&self, end: usize) -> usize
-        requires few { end ≤ self.now.len }
-        requires some { 0 < end }
+        requires { end ≤ self.now.len }
         ensures { result ≡ ones_of (bits_in self.now.words.now end) }
     {
+        if end == 0 {
+            return 0;
+        }
         let block = (end - 1) / 512;
-        let mut count = self.directory[block] as usize;
-        for word in 8 * block..end / 64 {
-            count += self.words[word].count_ones() as usize;
-        }
-        if end % 64 > 0 {
-            let low = (1u64 << (end % 64)) - 1;
-            count += (self.words[end / 64] & low).count_ones() as usize;
-        }
-        count
+        let before = self.directory[block] as usize;
+        let whole = ones_in(&self.words[8 * block..end / 64]);
+        let last = self.words.get(end / 64).copied().unwrap_or(0);
+        let low = (1 << (end % 64)) - 1;
+        before + whole + (last & low).count_ones() as usize
     }
 
-    // The word after the last one of the block that has bits of the row.
-    fn block_end(&self, block: usize) -> usize
-        requires { block ≤ 131072 }
-        ensures { result ≡ min (8 * (block + 1)) ((self.now.len + 63) / 64) }
+    // The first place with a one from the word on, to the end of its block of eight words.
+    fn first_in_block(&self, word: usize) -> Option<usize>
+        requires { word ≤ length self.now.words.now }
+        ensures { result ≡ first_place (bit_at self.now.words.now) (64 * word) (64 * (8 - word % 8)) }
     {
-        (8 * (block + 1)).min((self.len + 63) / 64)
+        Some(64 * word + first_one(block_from(self.words, word))?)
     }
 
     // The first place with a one from the block on. The directory tells in which block it is.
     fn first_from(&self, block: usize) -> Option<usize>
-        requires { block ≤ 131072 }
         ensures { result ≡ first_place (bit_at self.now.words.now) (512 * block) (self.now.len - 512 * block) }
     {
-        if block >= self.directory.len() {
-            return None;
-        }
-        let more = self.directory[block] + 1;
-        let next = OrderedList::new(self.directory).first_not_below(&more);
-        first_one(self.words, 8 * (next - 1), self.block_end(next - 1))
-    }
-}
-
-impl<'a> PlainBits<'a> {
-    // How many ones there are.
-    fn total(&self) -> usize
-        ensures { result ≡ ones_of (bits_in self.now.words.now self.now.len) }
-    {
-        if self.len == 0 {
-            return 0;
-        }
-        self.count(self.len)
+        let more = *self.directory.get(block)? + 1;
+        self.first_in_block(8 * self.last_block_below(more)?)
     }
 
-    // The place of the one of this number, which is in the block.
-    fn select_in(&self, block: usize, nth: usize) -> Option<usize>
-        requires begun { block < length self.now.directory.now }
-        requires after { slice_index self.now.directory.now block < nth }
-        requires enough { nth ≤ ones_of (bits_in self.now.words.now (64 * min (8 * (block + 1)) ((self.now.len + 63) / 64))) }
-        ensures { result ≡ select_of (plain_bits self.now) nth }
+    // The last block with fewer ones before it, or none if there is none.
+    fn last_block_below(&self, ones: u64) -> Option<usize>
+        ensures last { let next = first_not_below nat_lt ones self.now.directory.now in SomeIff result (0 < next) (next - 1) }
+        ensures within { IfSome result (λ block. block < length self.now.directory.now) }
+        ensures fewer { IfSome result (λ block. slice_index self.now.directory.now block < ones) }
     {
-        let mut rest = nth - self.directory[block] as usize;
-        for word in 8 * block..self.block_end(block) {
-            let count = self.words[word].count_ones();
-            if rest <= count as usize {
-                return Some(64 * word + nth_one(self.words[word], rest as u32) as usize);
-            }
-            rest -= count as usize;
-        }
-        None
+        OrderedList::new(self.directory)
+            .first_not_below(&ones)
+            .checked_sub(1)
     }
 }
 
 impl<'a> CountedBitmap for PlainBits<'a> {
     fn rank(&self, place: usize) -> usize {
-        let end = place.min(self.len);
-        if end == 0 {
-            return 0;
-        }
-        self.count(end)
+        self.count(place.min(self.len))
     }
 
     fn select(&self, nth: usize) -> Option<usize> {
-        if nth == 0 || self.total() < nth {
-            return None;
-        }
-        let next = OrderedList::new(self.directory).first_not_below(&(nth as u64));
-        self.select_in(next - 1, nth)
+        let block = self.last_block_below(nth as u64)?;
+        let rest = nth - self.directory[block] as usize;
+        Some(512 * block + nth_in(block_from(self.words, 8 * block), rest)?)
     }
 
     fn following(&self, place: usize) -> Option<usize> {
         if place >= self.len {
             return None;
         }
-        let rest = self.words[place / 64] >> (place % 64);
+        let word = place / 64;
+        let rest = self.words[word] >> (place % 64);
         if rest != 0 {
             return Some(place + rest.trailing_zeros() as usize);
         }
-        let block = place / 512;
-        match first_one(self.words, place / 64 + 1, self.block_end(block)) {
+        let next = word + 1;
+        // Not `or_else`: the proof would learn nothing of what a closure that calls a method returns.
+        match self.first_in_block(next) {
             Some(found) => Some(found),
-            None => self.first_from(block + 1),
+            None => self.first_from(next / 8 + 1),
         }
     }
 }

@@ -1,61 +1,89 @@
 // Reading a row of plain bits from words that may go on after it.
+ghost use Rattle.bitmaps.specs.PlainRoom.{room_told};
+ghost use Rattle.bitmaps.specs.BitRows.{HasBitRow};
 ghost use Rattle.bitmaps.specs.PlainMeaning.{plain_bits};
-ghost use Rattle.bitmaps.specs.PlainRows.{plain_read, bits_read, TakesRow, FindsRow, ReadsRow};
-ghost use Rattle.std.specs.Prelude.{◌≡◌};
+ghost use Rattle.bitmaps.specs.PlainRows.{plain_words, plain_room, plain_bits_in, plain_read};
+ghost use Rattle.bits.specs.StoredRows.{TakesRow, FindsRow};
+ghost use Rattle.bits.specs.Words.{spare_zero};
+ghost use Rattle.std.specs.Prelude.{◌≡◌, ◌*◌, ◌≤◌, IfOk, length};
+ghost use Rattle.std.specs.Result.{result_map_both};
 
 use crate::fault::BitsFault;
 use crate::plain::PlainBits;
 use crate::plain_check::tells_ones;
-use bits::BareBits;
+use bits::{BareBits, MAX_LEN, StoredRow};
 
-pub const MAX_BITS: usize = 67_108_864;
-
-// How many words the row takes, or the first fault.
-pub fn check_plain_bits(words: &[u64]) -> Result<usize, BitsFault>
-    ensures answer { result ≡ plain_read words.now }
-    ensures row { TakesRow words.now result }
-    ensures found { FindsRow words.now result }
+// The row at the front of the words and how many of them it takes, or the first fault.
+#[tactic(auto, using(std::proofs::lemmas::Bool::Decides::nat_tests, crate::proofs::PlainReading::bits_cut, crate::proofs::PlainReading::directory_cut), unfolding(crate::specs::PlainRows::plain_read))]
+fn read(words: &[u64]) -> Result<(PlainBits<'_>, usize), BitsFault>
+    ensures room { result_map_both (λ row. row.1) (λ fault. fault) result ≡ plain_read words.now }
+    ensures bits { IfOk result (λ row. plain_bits row.0 ≡ plain_bits_in words.now) }
 {
-    if words.len() == 0 {
-        return Err(BitsFault::Short);
-    }
-    if words[0] > MAX_BITS as u64 {
+    let first = *words.first().ok_or(BitsFault::Short)?;
+    if first > MAX_LEN as u64 {
         return Err(BitsFault::TooManyBits);
     }
-    let len = words[0] as usize;
-    let bits_end = 1 + (len + 63) / 64;
-    let end = bits_end + (len + 511) / 512;
-    if words.len() < end {
+    let len = first as usize;
+    let bits_end = 1 + len.div_ceil(64);
+    let blocks = len.div_ceil(512);
+    if words.len() < bits_end + blocks {
         return Err(BitsFault::Short);
     }
-    if !BareBits::new(&words[1..bits_end], len).is_spare_zero() {
+    let bits = &words[1..bits_end];
+    let directory = &words[bits_end..bits_end + blocks];
+    if !is_spare_zero(bits, len) {
         return Err(BitsFault::SpareBitSet);
     }
-    if !tells_ones(&words[1..bits_end], &words[bits_end..end]) {
+    if !tells_ones(bits, directory) {
         return Err(BitsFault::WrongContent);
     }
-    Ok(end)
+    let row = PlainBits {
+        words: bits,
+        directory,
+        len,
+    };
+    Ok((row, bits_end + blocks))
 }
 
-impl<'a> PlainBits<'a> {
-    // The row at the front of the words, or an empty one if there is none.
-    pub fn new(words: &'a [u64]) -> PlainBits<'a>
-        ensures bits { plain_bits result ≡ bits_read (plain_read words.now) words.now }
-        ensures list { ReadsRow words.now (plain_bits result) }
+// Whether each bit of the words after the first ones, so many of them, is a zero.
+fn is_spare_zero(words: &[u64], len: usize) -> bool
+    requires { len ≤ 64 * length words.now }
+    ensures { result ≡ spare_zero words.now len }
+{
+    BareBits::new(words, len).is_spare_zero()
+}
+
+impl<'a> StoredRow<'a> for PlainBits<'a> {
+    type Fault = BitsFault;
+
+    ghost HasRow = { HasBitRow };
+
+    ghost words_of = { plain_words };
+
+    ghost room_of = { λ bits. plain_room (length bits) };
+
+    ghost items_in = { plain_bits_in };
+
+    ghost reading = { plain_read };
+
+    fn check(words: &[u64]) -> Result<usize, BitsFault>
+        ensures answer { result ≡ plain_read words.now }
+        ensures row { TakesRow plain_words plain_bits_in words.now result }
+        ensures found { FindsRow HasBitRow plain_words (λ bits. plain_room (length bits)) words.now result }
     {
-        let Ok(end) = check_plain_bits(words) else {
+        Ok(read(words)?.1)
+    }
+
+    fn new(words: &'a [u64]) -> PlainBits<'a> {
+        let Ok((row, _)) = read(words) else {
             return PlainBits {
                 words: &words[0..0],
                 directory: &words[0..0],
                 len: 0,
             };
         };
-        let len = words[0] as usize;
-        let bits_end = 1 + (len + 63) / 64;
-        PlainBits {
-            words: &words[1..bits_end],
-            directory: &words[bits_end..end],
-            len,
-        }
+        row
     }
+
+    ghost room = { room_told };
 }

@@ -1,13 +1,13 @@
 -- Rank, select and following, of the bits that a test of places tells. Assumes nothing.
-use Rattle.std.proofs.Common.{◌≡◌, ℕ, zero, suc, ◌+◌, ◌-◌, ◌<◌, ◌≤◌, min, Bool, true, false, cond, ◌&&◌, eqb, ◌⊎◌, List, map, length, take, Some, None, sym, ap, ◌∙◌, subst, ⊎_elim, arith}
+use Rattle.std.proofs.Common.{◌≡◌, ℕ, zero, suc, ◌+◌, ◌-◌, ◌<◌, ◌≤◌, min, Bool, true, false, cond, ◌&&◌, eqb, ◌⊎◌, List, map, length, take, Some, None, sym, refl, ap, ◌∙◌, subst, ⊎_elim, arith}
 use Rattle.std.specs.List.{slice_get, range_with_len}
 use Rattle.std.proofs.lemmas.List.FromFn.{length-map-range_with_len, get_or-map-range_with_len, take-map-range_with_len, sum_by-map-range_with_len_more}
 use Rattle.std.proofs.lemmas.List.{take_all, get_or_past}
 use Rattle.std.proofs.lemmas.Option.{slice_get-get_or, slice_get_past}
 use Rattle.std.proofs.lemmas.List.Sums.{count_by-le-length}
-use Rattle.std.proofs.lemmas.Bool.{cases_lt, cases_Bool, both_ways, cond-true, cond-false, and_from, and_left, and_right, eq-eqb, ne_eqb}
+use Rattle.std.proofs.lemmas.Bool.{cases_lt, cases_Bool, both_ways, cond-true, cond-false, and_from, and_left, and_right, and_parts, eq-eqb, ne_eqb, eqb-true}
 use Rattle.ordered.specs.Lists.{first_place}
-use Rattle.bits.proofs.FirstPlace.{first_is, first_not, first_same}
+use Rattle.bits.proofs.FirstPlace.{first_is, first_not, first_found, first_same}
 use Rattle.bitmaps.specs.Counts.{ones_of, rank_of, one_at, select_of, following_of}
 
 module _ (test : ℕ → Bool) where
@@ -47,6 +47,29 @@ module _ (test : ℕ → Bool) where
   pub ones_gap : (a b : ℕ) → a ≤ b → ((k : ℕ) → a ≤ k → k < b → test k ≡ false) → ones b ≡ ones a
   ones_gap a b l h = let e : a + (b - a) ≡ b = omega arith in ap ones (sym e) ∙ zeros_add a (b - a) (λ k low high. h k low (omega arith))
 
+  -- where no one is added there is none
+  pub no_ones : (a b : ℕ) → ones b ≤ ones a → (k : ℕ) → a ≤ k → k < b → test k ≡ false
+  no_ones a b e k low high =
+      ⊎_elim
+      (λ t. absurd (omega (arith, ones_mono a k low, ones_more k, ones_mono (k + 1) b (omega arith), cond-true {A = ℕ} (test k) 1 0 t)))
+      (λ f. f)
+      (cases_Bool (test k))
+
+  -- the one of a number that is not past the number of ones
+  pub place_of_one : (n j : ℕ) → 0 < j → j ≤ ones n → (p : ℕ) × (p < n) × (test p ≡ true) × (ones p + 1 ≡ j)
+  place_of_one zero j some enough = absurd (omega (arith, ones_bound 0))
+  place_of_one (suc n) j some enough =
+      let next : n + 1 ≡ suc n = omega arith in
+      let more : ones (suc n) ≡ ones n + cond (test n) 1 0 = ap ones (sym next) ∙ ones_more n in
+      ⊎_elim
+      (λ l.
+      ⊎_elim
+      (λ t. (n, omega arith, t, omega (arith, more, cond-true {A = ℕ} (test n) 1 0 t)))
+      (λ f. absurd (omega (arith, more, cond-false {A = ℕ} (test n) 1 0 f)))
+      (cases_Bool (test n)))
+      (λ l. let q = place_of_one n j some l in (q.0, omega (arith, q.1), q.2, q.3))
+      (cases_lt (ones n) j)
+
   pub ones_run : (a b : ℕ) → a ≤ b → ((k : ℕ) → a ≤ k → k < b → test k ≡ true) → ones b ≡ ones a + (b - a)
   ones_run a b l h = let e : a + (b - a) ≡ b = omega arith in ap ones (sym e) ∙ ones_add a (b - a) (λ k low high. h k low (omega arith))
 
@@ -64,11 +87,14 @@ module _ (test : ℕ → Bool) where
       (λ l. let e : k ≡ min k n = omega arith in take-map-range_with_len test 0 n k l ∙ ap told e)
       (cases_lt n k)
 
+  pub rank_least : (k n e : ℕ) → e ≡ min k n → ones e ≡ rank_of (told n) k
+  rank_least k n e h = ap ones h ∙ ap ones_of (sym (take-told k n))
+
   module _ (len : ℕ) (spare : (k : ℕ) → len ≤ k → test k ≡ false) where
     pub rank_told : (k : ℕ) → ones k ≡ rank_of (told len) k
     rank_told k =
         let all : ones k ≡ ones (min k len) = ones_gap (min k len) k (omega arith) (λ j low high. spare j (omega arith)) in
-        all ∙ ap ones_of (sym (take-told k len))
+        all ∙ rank_least k len (min k len) refl
 
     pub one_at_is : (k : ℕ) → one_at (told len) k ≡ test k
     one_at_is k =
@@ -81,7 +107,7 @@ module _ (test : ℕ → Bool) where
     one_before : (p : ℕ) → test p ≡ true → p < len
     one_before p t = ⊎_elim (λ l. l) (λ l. absurd (both_ways _ (spare p l) t)) (cases_lt p len)
 
-    following_told : (i : ℕ) → following_of (told len) i ≡ first_place test i (len - i)
+    pub following_told : (i : ℕ) → following_of (told len) i ≡ first_place test i (len - i)
     unfolding following_of
     following_told i =
         first_same (one_at (told len)) test one_at_is i (length (told len) - i)
@@ -117,3 +143,25 @@ module _ (test : ℕ → Bool) where
         ⊎_elim (λ z. omega arith) (λ l. omega (arith, rank_told (k + 1), ones_mono (k + 1) len (omega arith))) h)))
         (λ f. and_left _ _ f)
         (cases_Bool (one_at (told len) k))))
+
+    -- what was selected is the one of this number, and none is only where there are fewer
+    pub select_found : (p j : ℕ) → select_of (told len) j ≡ Some p → (p < len) × (test p ≡ true) × (ones p + 1 ≡ j)
+    unfolding select_of
+    select_found p j e =
+        let long : length (told len) ≡ len = length-map-range_with_len test 0 len in
+        let found = first_found (λ i. one_at (told len) i && eqb (rank_of (told len) (i + 1)) j) 0 (length (told len)) p e in
+        let both = and_parts _ _ found.3 in
+        let one : test p ≡ true = sym (one_at_is p) ∙ both.0 in
+        let count : rank_of (told len) (p + 1) ≡ j = eqb-true (rank_of (told len) (p + 1)) j both.1 in
+        (omega (arith, found.1), one, omega (arith, rank_told (p + 1), ones_more p, cond-true {A = ℕ} (test p) 1 0 one))
+
+    pub select_missed : (j : ℕ) → 0 < j → select_of (told len) j ≡ None → ones len < j
+    select_missed j some e =
+        ⊎_elim
+        (λ l. l)
+        (λ (l : j ≤ ones len).
+        let q = place_of_one len j some l in
+        let f : Some q.0 ≡ None = select_is q.0 j q.2 q.3 ∙ e in
+        let z : ◌≡◌ {A = ℕ} 0 1 = cc in
+        absurd (omega arith))
+        (cases_lt (ones len) j)
