@@ -70,6 +70,7 @@ impl<'a> StoredRow<'a> for PackedNumbers<'a> {
 
     ghost reading = { packed_read };
 
+    // The trait's clauses again: the check does not yet give them to a function of a lent slice and no self.
     fn check(words: &[u64]) -> Result<usize, NumbersFault>
         ensures answer { result ≡ packed_read words.now }
         ensures row { TakesRow packed_words numbers_packed words.now result }

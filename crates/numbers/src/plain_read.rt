@@ -52,6 +52,7 @@ impl<'a> StoredRow<'a> for PlainNumbers<'a> {
 
     ghost reading = { plain_numbers_read };
 
+    // The trait's clauses again: the check does not yet give them to a function of a lent slice and no self.
     fn check(words: &[u64]) -> Result<usize, NumbersFault>
         ensures answer { result ≡ plain_numbers_read words.now }
         ensures row { TakesRow plain_number_words numbers_after words.now result }
