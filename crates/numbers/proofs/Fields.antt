@@ -1,28 +1,29 @@
 -- A number in so many bits of one word or of two. Assumes nothing.
 use Rattle.std.proofs.Common.{◌≡◌, ℕ, ◌+◌, ◌-◌, ◌*◌, ◌/◌, ◌%◌, ◌^◌, ◌<◌, ◌≤◌, false, eqb, List, map, get_or, sym, ap, ◌∙◌, subst, ⊎_elim, mod-lt, arith, pow_pos}
 use lib.Bits.{bit_or}
-use lib.Pow.{field, mod-mod-pow}
+use lib.Pow.{split}
 use Rattle.std.specs.List.{range_with_len}
-use Rattle.std.proofs.lemmas.Nat.{shl-shr, mod-pow-add, mod_low, shr_high, shr_below, or_shifted}
+use Rattle.std.proofs.lemmas.Nat.{shl-shr, mod-pow-add, mod_low, shr_below, or_shifted}
+use Rattle.std.proofs.lemmas.Nat.Bits.{bit_at_cat_low, bit_at_cat_high}
 use Rattle.std.proofs.lemmas.List.FromFn.{length-map-range_with_len, get_or-map-range_with_len, fill_by_all}
 use Rattle.std.proofs.lemmas.Bool.{cases_lt}
 use Rattle.bits.specs.Words.{bit_of, bit_at, number_of}
 use Rattle.bits.proofs.Words.{bit_shifted, bit_in_word, number_of_bits}
 
 -- the low bits of a number
-pub low_bit : (x k j : ℕ) → j < k → bit_of (x % 2 ^ k) j ≡ bit_of x j
+low_bit : (x k j : ℕ) → j < k → bit_of (x % 2 ^ k) j ≡ bit_of x j
 unfolding bit_of
-low_bit x k j h =
-    let m : ℕ = k - j - 1 in
-    let e : k ≡ m + 1 + j = omega arith in
-    ap (λ y. eqb (y % 2) 1) (ap (λ i. x % 2 ^ i / 2 ^ j) e ∙ field x (m + 1) j) ∙ ap (λ y. eqb y 1) (mod-mod-pow (x / 2 ^ j) m 1)
+low_bit x k j h = ap (λ d. eqb d 1) (sym (bit_at_cat_low (x / 2 ^ k) k (x % 2 ^ k) j h) ∙ ap (λ y. y / 2 ^ j % 2) (split x k))
 
-module _ (a k b : ℕ) (h : b < 2 ^ k) where
-  bit_below : (j : ℕ) → j < k → bit_of (a * 2 ^ k + b) j ≡ bit_of b j
-  bit_below j l = sym (low_bit (a * 2 ^ k + b) k j l) ∙ ap (λ x. bit_of x j) (mod_low a k b h)
+-- the bits of two numbers, the one above the other
+module _ (a k b j : ℕ) where
+  bit_below : j < k → bit_of (a * 2 ^ k + b) j ≡ bit_of b j
+  unfolding bit_of
+  bit_below l = ap (λ d. eqb d 1) (bit_at_cat_low a k b j l)
 
-  bit_above : (j : ℕ) → bit_of (a * 2 ^ k + b) (k + j) ≡ bit_of a j
-  bit_above j = sym (bit_shifted (a * 2 ^ k + b) k j) ∙ ap (λ x. bit_of x j) (shr_high a k b h)
+  bit_above : b < 2 ^ k → k ≤ j → bit_of (a * 2 ^ k + b) j ≡ bit_of a (j - k)
+  unfolding bit_of
+  bit_above h l = ap (λ d. eqb d 1) (bit_at_cat_high a k b j h l)
 
 -- what is shifted up loses its high bits
 shifted_up : (a s k : ℕ) → a * 2 ^ k % 2 ^ (s + k) ≡ a % 2 ^ s * 2 ^ k
@@ -67,12 +68,10 @@ module _ (ws : List ℕ) where
         ⊎_elim
         (λ below.
         let e : 64 * i + (s + j) ≡ 64 * i + s + j = omega arith in
-        bit_below (hi % 2 ^ s) k lo small j below ∙ bit_shifted (get_or ws i 0) s j ∙ sym (bit_in_word ws i (s + j) (omega arith)) ∙ ap (bit_at ws) e)
+        bit_below (hi % 2 ^ s) k lo j below ∙ bit_shifted (get_or ws i 0) s j ∙ sym (bit_in_word ws i (s + j) (omega arith)) ∙ ap (bit_at ws) e)
         (λ above.
-        let part : k + (j - k) ≡ j = omega arith in
         let e : 64 * (i + 1) + (j - k) ≡ 64 * i + s + j = omega arith in
-        ap (bit_of (hi % 2 ^ s * 2 ^ k + lo)) (sym part)
-        ∙ bit_above (hi % 2 ^ s) k lo small (j - k)
+        bit_above (hi % 2 ^ s) k lo j small above
         ∙ low_bit hi s (j - k) (omega arith)
         ∙ sym (bit_in_word ws (i + 1) (j - k) (omega arith))
         ∙ ap (bit_at ws) e)
