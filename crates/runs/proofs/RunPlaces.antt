@@ -1,11 +1,13 @@
 -- Runs, place by place. Assumes nothing.
-use Rattle.std.proofs.Common.{◌≡◌, ℕ, zero, suc, ◌+◌, ◌-◌, ◌<◌, ◌≤◌, true, false, not, ltb, ◌⊎◌, List, [], ◌∷◌, length, get_or, take, sum_by, refl, ap, ◌∙◌, subst, inl, inr, ⊎_elim, add-one, arith}
+use Rattle.std.proofs.Common.{◌≡◌, ℕ, zero, suc, ◌+◌, ◌-◌, ◌<◌, ◌≤◌, true, false, leb, ◌⊎◌, List, [], ◌∷◌, length, get_or, take, max, Some, None, Option, sum_by, sym, refl, ap, ◌∙◌, subst, inl, inr, ⊎_elim, add-one, arith}
+use Rattle.std.proofs.lemmas.List.{get_or_default}
 use Rattle.std.proofs.lemmas.List.Sums.{sum_by_more}
-use Rattle.std.proofs.lemmas.Bool.{both_ways, cases_lt, cases_order, and_parts, and_from, and_left, and_right, or_left, or_right, or_from, le-leb, lt-leb, lt-ltb, le-ltb, leb-true, ltb-true, not_from_false}
-use Rattle.ordered.specs.Order.{ascends}
-use Rattle.ordered.proofs.Lists.{chained_from_places}
-use Rattle.runs.specs.Runs.{first_of, size_of, end_of, in_run, in_runs, runs_fit}
-use Rattle.runs.proofs.Tested.{ones, ones_gap, ones_run, ones_bound}
+use Rattle.std.proofs.lemmas.Bool.{cases_Bool, cases_lt, cases_order, cond-true, cond-false, and_parts, and_from, and_left, and_right, or_left, or_right, or_from, le-leb, lt-leb, lt-ltb, le-ltb, leb-true, leb-false, ltb-true}
+use Rattle.std.specs.List.{slice_get}
+use Rattle.std.specs.Option.{option_map}
+use Rattle.std.specs.List.Sorted.{IsPartitionPoint, IsNonDecreasingBy}
+use Rattle.runs.specs.Runs.{first_of, size_of, end_of, in_run, in_runs, runs_fit, run_after}
+use Rattle.bitmaps.proofs.Tested.{ones, ones_gap, ones_run, ones_bound}
 
 -- what lawful runs tell of the first one, and when they are lawful
 pub fit_parts : (from len w : ℕ) (ws : List ℕ) → runs_fit from len (w ∷ ws) ≡ true → (from ≤ first_of w) × (0 < size_of w) × (end_of w ≤ len) × (runs_fit (end_of w + 1) len ws ≡ true)
@@ -56,14 +58,12 @@ pub covers_not : (ws : List ℕ) (k : ℕ) → ((i : ℕ) → i < length ws → 
 covers_not [] k h = refl
 covers_not (w ∷ ws) k h = or_from _ _ (not_in_run w k (h 0 (omega arith))) (covers_not ws k (λ i l. h (suc i) (omega arith)))
 
+pub none_below : (from len : ℕ) (ws : List ℕ) → runs_fit from len ws ≡ true → (k : ℕ) → k < from → in_runs ws k ≡ false
+none_below from len ws fit k h = covers_not ws k (λ i l. inl (omega (arith, run_from from len ws i fit l)))
+
 module _ (len : ℕ) (ws : List ℕ) (fit : runs_fit 0 len ws ≡ true) where
   pub covers_past : (k : ℕ) → len ≤ k → in_runs ws k ≡ false
   covers_past k h = covers_not ws k (λ i l. inr (omega (arith, run_ends 0 len ws i fit l)))
-
-  pub runs_ascend : ascends ltb ws ≡ true
-  runs_ascend =
-      chained_from_places (λ x y. not (ltb y x)) ws 0
-      (λ i h. not_from_false _ (le-ltb (get_or ws (i + 1) 0) (get_or ws i 0) (omega (arith, run_before 0 len ws i (i + 1) fit (omega arith) h))))
 
   -- a place between two runs
   pub between : (i k : ℕ) → ((j : ℕ) → j < i → end_of (get_or ws j 0) ≤ k) → (i < length ws → k < first_of (get_or ws i 0)) → in_runs ws k ≡ false
@@ -112,13 +112,79 @@ module _ (len : ℕ) (ws : List ℕ) (fit : runs_fit 0 len ws ≡ true) where
       let w : ℕ = get_or ws i 0 in
       omega (arith, sizes_first i h, ones_bound (in_runs ws) (first_of w), run_ends 0 len ws i fit h)
 
-  -- from a place that is not covered on, none is, until the next run
-  pub none_until : (next place : ℕ) → ((i : ℕ) → i < next → first_of (get_or ws i 0) ≤ place) → in_runs ws place ≡ false → next ≤ length ws → (k : ℕ) → place ≤ k → (next < length ws → k < first_of (get_or ws next 0)) → in_runs ws k ≡ false
-  none_until next place before free within k low until =
-      between next k
-      (λ j l.
+-- where the runs stand part that end by the place and that end after it, there is the first that ends after it
+pub after_part : (ws : List ℕ) (k i : ℕ) → IsPartitionPoint (λ w. leb (end_of w) k ≡ true) (λ w. leb (end_of w) k ≡ false) ws i → slice_get ws i ≡ run_after ws k
+after_part [] k i p = refl
+after_part (w ∷ ws) k zero p = sym (cond-false (leb (end_of w) k) _ _ (p.1 0 w (omega arith) (omega arith)))
+after_part (w ∷ ws) k (suc i) p =
+    after_part ws k i (λ j d l m. p.0 (suc j) d (omega arith) (omega arith), λ j d l m. p.1 (suc j) d (omega arith) (omega arith))
+    ∙ sym (cond-true (leb (end_of w) k) _ _ (p.0 0 w (omega arith) (omega arith)))
+
+-- from a place on that no run ends after, none is covered
+pub after_none : (ws : List ℕ) (k : ℕ) → run_after ws k ≡ None → (j : ℕ) → k ≤ j → in_runs ws j ≡ false
+after_none [] k e j l = refl
+after_none (w ∷ ws) k e j l =
+    ⊎_elim
+    (λ t. or_from _ _ (not_in_run w j (inr (omega (arith, leb-true (end_of w) k t)))) (after_none ws k (sym (cond-true (leb (end_of w) k) (run_after ws k) (Some w) t) ∙ e) j l))
+    (λ f. let g : Some w ≡ None = sym (cond-false (leb (end_of w) k) (run_after ws k) (Some w) f) ∙ e in let z : ◌≡◌ {A = ℕ} 0 1 = cc in absurd (omega arith))
+    (cases_Bool (leb (end_of w) k))
+
+-- and otherwise none is before the first run that ends after it
+pub after_some : (from len : ℕ) (ws : List ℕ) (k w : ℕ) → runs_fit from len ws ≡ true → run_after ws k ≡ Some w → (k < end_of w) × (first_of w < end_of w) × ((j : ℕ) → k ≤ j → j < first_of w → in_runs ws j ≡ false) × ((j : ℕ) → first_of w ≤ j → j < end_of w → in_runs ws j ≡ true)
+after_some from len [] k w fit e = let z : ◌≡◌ {A = ℕ} 0 1 = cc in absurd (omega arith)
+after_some from len (v ∷ vs) k w fit e =
+    let parts = fit_parts from len v vs fit in
+    ⊎_elim
+    (λ t.
+    let later = after_some (end_of v + 1) len vs k w parts.3 (sym (cond-true (leb (end_of v) k) (run_after vs k) (Some v) t) ∙ e) in
+    let past : end_of v ≤ k = leb-true (end_of v) k t in
+    (later.0, later.1, λ j a b. or_from _ _ (not_in_run v j (inr (omega arith))) (later.2 j a b), λ j a b. or_right _ _ (later.3 j a b)))
+    (λ f.
+    let g : Some v ≡ Some w = sym (cond-false (leb (end_of v) k) (run_after vs k) (Some v) f) ∙ e in
+    let s : v ≡ w = cc in
+    subst
+    (λ x. (k < end_of x) × (first_of x < end_of x) × ((j : ℕ) → k ≤ j → j < first_of x → in_runs (v ∷ vs) j ≡ false) × ((j : ℕ) → first_of x ≤ j → j < end_of x → in_runs (v ∷ vs) j ≡ true))
+    s (
+      omega (arith, leb-false (end_of v) k f),
+      omega (arith, parts.1),
+      λ j a b. or_from _ _ (not_in_run v j (inl b)) (none_below (end_of v + 1) len vs parts.3 j (omega arith)),
+      λ j a b. or_left _ _ (and_from _ _ (le-leb (first_of v) j a) (lt-ltb j (end_of v) b)),
+    ))
+    (cases_Bool (leb (end_of v) k))
+
+-- the runs end in ascending order
+pub ends_ascend : (len : ℕ) (ws : List ℕ) → runs_fit 0 len ws ≡ true → IsNonDecreasingBy end_of ws
+ends_ascend len ws fit i j d l h =
+    let a : end_of (get_or ws i d) ≡ end_of (get_or ws i 0) = ap end_of (get_or_default ws i d 0 (omega arith)) in
+    let b : end_of (get_or ws j d) ≡ end_of (get_or ws j 0) = ap end_of (get_or_default ws j d 0 h) in
+    ⊎_elim
+    (λ s. omega (arith, a, b, run_before 0 len ws i j fit s h))
+    (λ s. let e : i ≡ j = omega arith in omega (arith, ap (λ k. end_of (get_or ws k d)) e))
+    (cases_lt i j)
+
+-- so the place is covered if that run begins by it, and the next place that is covered is the later of it and where that run begins
+pub begun_none : (ws : List ℕ) (k : ℕ) → option_map first_of (run_after ws k) ≡ None → (j : ℕ) → k ≤ j → in_runs ws j ≡ false
+begun_none ws k e = go (run_after ws k) refl
+  where
+    go : (r : Option ℕ) → run_after ws k ≡ r → (j : ℕ) → k ≤ j → in_runs ws j ≡ false
+    go None is = after_none ws k is
+    go (Some w) is = let f : Some (first_of w) ≡ None = sym (ap (option_map first_of) is) ∙ e in let z : ◌≡◌ {A = ℕ} 0 1 = cc in absurd (omega arith)
+
+module _ (len : ℕ) (ws : List ℕ) (fit : runs_fit 0 len ws ≡ true) (k first : ℕ) (e : option_map first_of (run_after ws k) ≡ Some first) where
+  pub begun_some : ((j : ℕ) → k ≤ j → j < first → in_runs ws j ≡ false) × (in_runs ws (max k first) ≡ true)
+  begun_some = go (run_after ws k) refl
+    where
+      go : (r : Option ℕ) → run_after ws k ≡ r → ((j : ℕ) → k ≤ j → j < first → in_runs ws j ≡ false) × (in_runs ws (max k first) ≡ true)
+      go None is = let f : ◌≡◌ {A = Option ℕ} None (Some first) = sym (ap (option_map first_of) is) ∙ e in let z : ◌≡◌ {A = ℕ} 0 1 = cc in absurd (omega arith)
+      go (Some w) is =
+          let f : Some (first_of w) ≡ Some first = sym (ap (option_map first_of) is) ∙ e in
+          let same : first_of w ≡ first = cc in
+          let after = after_some 0 len ws k w fit is in
+          (λ j a b. after.2 j a (omega arith), after.3 (max k first) (omega arith) (omega (arith, after.0, after.1)))
+
+  pub begun_covers : in_runs ws k ≡ leb first k
+  begun_covers =
       ⊎_elim
-      (λ s. absurd (both_ways _ free (covers ws place j (omega arith) (before j l) s)))
-      (λ s. omega arith)
-      (cases_lt place (end_of (get_or ws j 0))))
-      until
+      (λ l. begun_some.0 k (omega arith) l ∙ sym (lt-leb first k l))
+      (λ l. let here : max k first ≡ k = omega arith in ap (in_runs ws) (sym here) ∙ begun_some.1 ∙ sym (le-leb first k l))
+      (cases_lt k first)

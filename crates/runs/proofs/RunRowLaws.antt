@@ -2,18 +2,20 @@
 use Rattle.std.proofs.Common.{◌≡◌, ℕ, suc, ◌+◌, ◌≤◌, Bool, true, List, [], ◌∷◌, ◌++◌, map, length, get_or, take, drop, Ok, Result, sym, ap, ◌∙◌, subst, arith}
 use Rattle.std.specs.List.{range_with_len}
 use Rattle.std.proofs.lemmas.List.FromFn.{length-map-range_with_len, length-range_with_len}
-use Rattle.std.proofs.lemmas.List.{length-map, length-append, take_at}
+use Rattle.std.proofs.lemmas.List.{length-map, length-append, length-take, length-drop, take_at}
 use Rattle.std.proofs.lemmas.List.Sums.{length-filter, count_by-le-length}
+use Rattle.bits.specs.StoredRows.{items_read, TakesRow, FindsRow, ReadsRow}
+use Rattle.bitmaps.specs.BitRows.{HasBitRow}
 use Rattle.bitmaps.specs.declared.fault.BitsFault.{BitsFault}
 use Rattle.runs.specs.RunMeaning.{covered_bits}
-use Rattle.runs.specs.RunRows.{run_read, runs_read, runs_in}
+use Rattle.runs.specs.RunRows.{run_read, run_bits_in, runs_in}
 use Rattle.runs.specs.RunWords.{begins_run, run_places, run_word, run_words, run_room}
 use Rattle.runs.specs.Runs.{in_runs, runs_fit}
 use Rattle.runs.proofs.RunPlaces.{covers_past}
-use Rattle.runs.proofs.RunReading.{row_read, read_facts, runs_long}
+use Rattle.runs.proofs.RunReading.{row_facts, row_read}
 use Rattle.runs.proofs.RunsAgain.{same_runs}
 use Rattle.runs.proofs.RunsOfBits.{words, words_cover, words_fit, bits_again}
-use Rattle.runs.proofs.Tested.{one_at_is}
+use Rattle.bitmaps.proofs.Tested.{one_at_is}
 
 -- lawful runs are the runs of the bits that they tell
 module _ (len : ℕ) (ws : List ℕ) (few : len ≤ 67108864) (fit : runs_fit 0 len ws ≡ true) where
@@ -51,31 +53,29 @@ module _ (bits : List Bool) (few : length bits ≤ 67108864) (rest : List ℕ) w
   runs_few =
       omega (arith, length-filter (begins_run bits) (range_with_len 0 (length bits)), count_by-le-length (begins_run bits) (range_with_len 0 (length bits)), length-range_with_len 0 (length bits))
 
-  pub found_row : Ok (run_room bits) ≡ run_read (run_words bits ++ rest)
+  found_row : run_read (run_words bits ++ rest) ≡ Ok (run_room bits)
   found_row =
       let size : length (words bits few) ≡ length (run_places bits) = length-map (run_places bits) (run_word bits) in
       let all : length (words bits few ++ rest) ≡ length (words bits few) + length rest = length-append (words bits few) rest in
-      row_read (run_words bits ++ rest) (omega arith) few runs_few (omega arith)
-      (ap (runs_fit 0 (length bits)) runs_there ∙ words_fit bits few)
+      sym (row_read (run_words bits ++ rest) (omega arith, few, runs_few, omega arith, ap (runs_fit 0 (length bits)) runs_there ∙ words_fit bits few))
 
-  found-bits : covered_bits (runs_in (run_words bits ++ rest)) (length bits) ≡ bits
+  found-bits : run_bits_in (run_words bits ++ rest) ≡ bits
   found-bits = ap (λ ws. covered_bits ws (length bits)) runs_there ∙ bits_again bits few
 
-  pub read_bits : runs_read (run_read (run_words bits ++ rest)) (run_words bits ++ rest) ≡ bits
-  read_bits = ap (λ r. runs_read r (run_words bits ++ rest)) (sym found_row) ∙ found-bits
-
 module _ (ws : List ℕ) (r : Result ℕ BitsFault) (read : r ≡ run_read ws) where
-  pub row_law : (n : ℕ) → r ≡ Ok n → take n ws ≡ run_words (runs_read r ws)
-  row_law n e =
-      let f = read_facts ws n (sym e ∙ read) in
-      ap (λ m. take m ws) f.4
-      ∙ cut (get_or ws 1 0) ws f.0
-      ∙ ap (λ m. get_or ws 0 0 ∷ (m ∷ runs_in ws)) (sym (runs_long ws f.2))
-      ∙ sym (row_again (get_or ws 0 0) (runs_in ws) f.1 f.3)
-      ∙ ap (λ x. run_words (runs_read x ws)) (sym e)
+  pub takes_row : TakesRow run_words run_bits_in ws r
+  takes_row n e =
+      let f = row_facts ws n (sym e ∙ read) in
+      let is = f.0 in
+      let long : length (runs_in ws) ≡ get_or ws 1 0 = omega (arith, length-take (get_or ws 1 0) (drop 2 ws), length-drop 2 ws, is.3) in
+      ap (λ m. take m ws) f.1
+      ∙ cut (get_or ws 1 0) ws is.0
+      ∙ ap (λ m. get_or ws 0 0 ∷ (m ∷ runs_in ws)) (sym long)
+      ∙ sym (row_again (get_or ws 0 0) (runs_in ws) is.1 is.4)
+      ∙ ap (λ x. run_words (items_read run_bits_in x ws)) (sym e)
 
-  pub found-law : (bits : List Bool) (rest : List ℕ) → length bits ≤ 67108864 → ws ≡ run_words bits ++ rest → r ≡ Ok (run_room bits)
-  found-law bits rest few e = read ∙ ap run_read e ∙ sym (found_row bits few rest)
+  pub finds_row : FindsRow HasBitRow run_words run_room ws r
+  finds_row bits rest few e = read ∙ ap run_read e ∙ found_row bits few rest
 
-pub means_law : (ws : List ℕ) (bits : List Bool) (rest : List ℕ) → length bits ≤ 67108864 → ws ≡ run_words bits ++ rest → runs_read (run_read ws) ws ≡ bits
-means_law ws bits rest few e = ap (λ xs. runs_read (run_read xs) xs) e ∙ read_bits bits few rest
+  pub reads_row : ReadsRow HasBitRow run_words ws (items_read run_bits_in r ws)
+  reads_row bits rest few e = ap (λ x. items_read run_bits_in x ws) (finds_row bits rest few e) ∙ ap run_bits_in e ∙ found-bits bits few rest

@@ -2,19 +2,16 @@
 use Rattle.std.proofs.Common.{◌≡◌, ℕ, ◌+◌, ◌<◌, ◌≤◌, true, false, ◌||◌, List, [], ◌∷◌, sym, refl, ap, ◌∙◌, inl, inr, ⊎_elim, arith}
 use Rattle.std.proofs.lemmas.Bool.{cases_lt, both_ways, or_from}
 use Rattle.runs.specs.Runs.{first_of, end_of, in_runs, runs_fit}
-use Rattle.runs.proofs.RunPlaces.{fit_parts, run_from, covers, covers_not, not_in_run}
+use Rattle.runs.proofs.RunPlaces.{fit_parts, none_below, covers, not_in_run}
 
 module _ (len : ℕ) where
-  none_below : (from : ℕ) (ws : List ℕ) → runs_fit from len ws ≡ true → (k : ℕ) → k < from → in_runs ws k ≡ false
-  none_below from ws fit k h = covers_not ws k (λ i l. inl (omega (arith, run_from from len ws i fit l)))
-
   -- the place after the first run is free
   end_free : (from w : ℕ) (ws : List ℕ) → runs_fit from len (w ∷ ws) ≡ true → in_runs (w ∷ ws) (end_of w) ≡ false
-  end_free from w ws fit = or_from _ _ (not_in_run w (end_of w) (inr (omega arith))) (none_below (end_of w + 1) ws (fit_parts from len w ws fit).3 (end_of w) (omega arith))
+  end_free from w ws fit = or_from _ _ (not_in_run w (end_of w) (inr (omega arith))) (none_below (end_of w + 1) len ws (fit_parts from len w ws fit).3 (end_of w) (omega arith))
 
   -- so are those before it
   front_free : (from w : ℕ) (ws : List ℕ) → runs_fit from len (w ∷ ws) ≡ true → (k : ℕ) → k < first_of w → in_runs (w ∷ ws) k ≡ false
-  front_free from w ws fit k h = or_from _ _ (not_in_run w k (inl h)) (none_below (end_of w + 1) ws (fit_parts from len w ws fit).3 k (omega arith))
+  front_free from w ws fit k h = or_from _ _ (not_in_run w k (inl h)) (none_below (end_of w + 1) len ws (fit_parts from len w ws fit).3 k (omega arith))
 
   first_covered : (from w : ℕ) (ws : List ℕ) → runs_fit from len (w ∷ ws) ≡ true → in_runs (w ∷ ws) (first_of w) ≡ true
   first_covered from w ws fit = covers (w ∷ ws) (first_of w) 0 (omega arith) (omega arith) (omega (arith, (fit_parts from len w ws fit).1))
@@ -47,7 +44,7 @@ module _ (len : ℕ) where
       let rest : (k : ℕ) → in_runs ws k ≡ in_runs vs k =
       λ k.
       ⊎_elim
-      (λ l. none_below (end_of w + 1) ws p.3 k l ∙ sym (none_below (end_of v + 1) vs q.3 k (omega arith)))
+      (λ l. none_below (end_of w + 1) len ws p.3 k l ∙ sym (none_below (end_of v + 1) len vs q.3 k (omega arith)))
       (λ l. sym (rest_covered w ws k (omega arith)) ∙ same k ∙ rest_covered v vs k (omega arith))
       (cases_lt k (end_of w + 1)) in
       ap (λ x. x ∷ ws) word ∙ ap (λ xs. v ∷ xs) (same_runs (end_of w + 1) (end_of v + 1) ws vs p.3 q.3 rest)

@@ -1,5 +1,5 @@
 -- Runs of ones, each in one word: its first place × 2^32 + its length. Assumes nothing.
-use Rattle.std.specs.Prelude.{ℕ, ◌+◌, ◌/◌, ◌%◌, ◌^◌, Bool, true, false, ◌&&◌, ◌||◌, List, [], ◌∷◌, nat_le, nat_lt}
+use Rattle.std.specs.Prelude.{ℕ, ◌+◌, ◌/◌, ◌%◌, ◌^◌, Bool, true, false, ◌&&◌, ◌||◌, List, [], ◌∷◌, Some, None, Option, cond, nat_le, nat_lt}
 
 -- the first place of a run
 abbrev pub first_of : ℕ → ℕ
@@ -26,3 +26,8 @@ in_runs (w ∷ ws) k = in_run w k || in_runs ws k
 abbrev pub runs_fit : ℕ → ℕ → List ℕ → Bool
 runs_fit from len [] = true
 runs_fit from len (w ∷ ws) = nat_le from (first_of w) && (nat_lt 0 (size_of w) && (nat_le (end_of w) len && runs_fit (end_of w + 1) len ws))
+
+-- the first run that ends after the place, or none if none does
+abbrev pub run_after : List ℕ → ℕ → Option ℕ
+run_after [] k = None
+run_after (w ∷ ws) k = cond (nat_le (end_of w) k) (run_after ws k) (Some w)

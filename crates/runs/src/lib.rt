@@ -4,8 +4,6 @@
 mod run;
 mod run_bitmap;
 mod run_read;
-mod search;
 mod view;
 
-pub use run_read::check_run_bits;
 pub use view::RunBits;

@@ -1,27 +1,26 @@
-// A run of ones in one word.
-ghost use Rattle.runs.specs.Runs.{first_of, size_of, end_of};
+// A run of ones, from its word.
+ghost use Rattle.runs.specs.Runs.{first_of, end_of};
 ghost use Rattle.std.specs.Prelude.{◌≡◌};
 
 // What the first place of a run is multiplied by in its word.
-pub(crate) const PLACE_UNIT: u64 = 4_294_967_296;
+const PLACE_UNIT: u64 = 4_294_967_296;
 
-// The first place of the run.
-pub(crate) fn first_of(run: u64) -> usize
-    ensures { result ≡ first_of run }
-{
-    (run / PLACE_UNIT) as usize
+// The places from the first one on and before the end.
+#[derive(Clone, Copy)]
+pub(crate) struct Run {
+    pub(crate) first: usize,
+    pub(crate) end: usize,
 }
 
-// How many places it covers.
-pub(crate) fn size_of(run: u64) -> usize
-    ensures { result ≡ size_of run }
-{
-    (run % PLACE_UNIT) as usize
-}
+impl From<u64> for Run {
+    ghost from_gives = { λ word run. (run.first ≡ first_of word) × (run.end ≡ end_of word) };
 
-// The place after its last one.
-pub(crate) fn end_of(run: u64) -> usize
-    ensures { result ≡ end_of run }
-{
-    first_of(run) + size_of(run)
+    fn from(word: u64) -> Run {
+        let first = (word / PLACE_UNIT) as usize;
+        let size = (word % PLACE_UNIT) as usize;
+        Run {
+            first,
+            end: first + size,
+        }
+    }
 }

@@ -1,49 +1,70 @@
 // Reading bits told by their runs, and counting in them.
 ghost use Rattle.runs.specs.RunMeaning.{run_bits};
+ghost use Rattle.runs.specs.Runs.{first_of, run_after};
+ghost use Rattle.std.specs.List.{slice_get};
+ghost use Rattle.std.specs.Prelude.{◌≡◌};
+ghost use Rattle.std.specs.Option.{option_map};
 
-use crate::run::{end_of, first_of, size_of};
+use crate::run::Run;
 use crate::view::RunBits;
 use bitmaps::CountedBitmap;
-use bits::BitRow;
+use bits::Row;
 
-impl<'a> BitRow for RunBits<'a> {
-    ghost bits = { run_bits };
+impl<'a> RunBits<'a> {
+    // How many runs end by the place. The next one is the first that ends after it.
+    fn ended_by(&self, place: usize) -> usize
+        ensures { slice_get self.now.runs.now result ≡ run_after self.now.runs.now place }
+    {
+        self.runs
+            .partition_point(|word| Run::from(*word).end <= place)
+    }
+
+    // Where the first run that ends after the place begins, or none if none does.
+    fn begin_after(&self, place: usize) -> Option<usize>
+        ensures { result ≡ option_map first_of (run_after self.now.runs.now place) }
+    {
+        let word = self.runs.get(self.ended_by(place))?;
+        Some(Run::from(*word).first)
+    }
+}
+
+impl<'a> Row for RunBits<'a> {
+    type Item = bool;
+
+    ghost items = { run_bits };
 
     fn len(&self) -> usize {
         self.len
     }
 
-    fn bit(&self, place: usize) -> Option<bool> {
+    fn get(&self, place: usize) -> Option<bool> {
         if place >= self.len {
             return None;
         }
-        let next = self.next_run(place);
-        Some(self.ends_after(next, place))
+        Some(self.begin_after(place).is_some_and(|first| first <= place))
     }
 }
 
 impl<'a> CountedBitmap for RunBits<'a> {
     fn rank(&self, place: usize) -> usize {
         let mut count = 0;
-        for run in self.runs {
-            if place < end_of(*run) {
-                let first = first_of(*run);
-                return count + (place.max(first) - first);
+        for word in self.runs {
+            let run = Run::from(*word);
+            if place < run.end {
+                return count + place.saturating_sub(run.first);
             }
-            count += size_of(*run);
+            count += run.end - run.first;
         }
         count
     }
 
     fn select(&self, nth: usize) -> Option<usize> {
-        if nth == 0 {
-            return None;
-        }
-        let mut before = nth - 1;
-        for run in self.runs {
-            let size = size_of(*run);
+        let mut before = nth.checked_sub(1)?;
+        for word in self.runs {
+            let run = Run::from(*word);
+            let size = run.end - run.first;
             if before < size {
-                return Some(first_of(*run) + before);
+                return Some(run.first + before);
             }
             before -= size;
         }
@@ -51,16 +72,6 @@ impl<'a> CountedBitmap for RunBits<'a> {
     }
 
     fn following(&self, place: usize) -> Option<usize> {
-        if place >= self.len {
-            return None;
-        }
-        let next = self.next_run(place);
-        if self.ends_after(next, place) {
-            return Some(place);
-        }
-        if next == self.runs.len() {
-            return None;
-        }
-        Some(first_of(self.runs[next]))
+        Some(place.max(self.begin_after(place)?))
     }
 }

@@ -1,69 +1,91 @@
 // Reading a row of runs from words that may go on after it.
+ghost use Rattle.bitmaps.specs.BitRows.{HasBitRow};
+ghost use Rattle.bits.specs.StoredRows.{TakesRow, FindsRow};
 ghost use Rattle.runs.specs.RunMeaning.{run_bits};
-ghost use Rattle.runs.specs.RunRows.{run_read, runs_read, TakesRuns, FindsRuns, MeansBits};
+ghost use Rattle.runs.specs.RunRows.{run_read, run_bits_in};
+ghost use Rattle.runs.specs.RunRoom.{room_told};
+ghost use Rattle.runs.specs.RunWords.{run_words, run_room};
 ghost use Rattle.runs.specs.Runs.{runs_fit};
-ghost use Rattle.std.specs.Prelude.{◌≡◌};
+ghost use Rattle.std.specs.Prelude.{◌≡◌, IfOk};
+ghost use Rattle.std.specs.Result.{result_map_both};
 
-use crate::run::{end_of, first_of};
+use crate::run::Run;
 use crate::view::RunBits;
-use bitmaps::{BitsFault, MAX_BITS};
+use bitmaps::BitsFault;
+use bits::{MAX_LEN, StoredRow};
 
 // Whether the runs ascend, are not empty, neither touch nor overlap, and end within so many bits.
 fn are_lawful(runs: &[u64], len: usize) -> bool
     ensures { result ≡ runs_fit 0 len runs.now }
 {
     let mut from = 0;
-    for run in runs {
-        let first = first_of(*run);
-        let end = end_of(*run);
-        if first < from || end == first || len < end {
+    for word in runs {
+        let run = Run::from(*word);
+        if run.first < from || run.end == run.first || len < run.end {
             return false;
         }
-        from = end + 1;
+        from = run.end + 1;
     }
     true
 }
 
-// How many words the row takes, or the first fault.
-pub fn check_run_bits(words: &[u64]) -> Result<usize, BitsFault>
-    ensures answer { result ≡ run_read words.now }
-    ensures row { TakesRuns words.now result }
-    ensures found { FindsRuns words.now result }
+// The row at the front of the words and how many of them it takes, or the first fault.
+#[tactic(auto, using(std::proofs::lemmas::Bool::Decides::nat_tests, crate::proofs::RunReading::runs_cut), unfolding(crate::specs::RunRows::run_read))]
+fn read(words: &[u64]) -> Result<(RunBits<'_>, usize), BitsFault>
+    ensures room { result_map_both (λ row. row.1) (λ fault. fault) result ≡ run_read words.now }
+    ensures bits { IfOk result (λ row. run_bits row.0 ≡ run_bits_in words.now) }
 {
-    if words.len() < 2 {
+    let [len, count, ..] = words else {
         return Err(BitsFault::Short);
-    }
-    if words[0] > MAX_BITS as u64 {
+    };
+    if *len > MAX_LEN as u64 {
         return Err(BitsFault::TooManyBits);
     }
-    if words[1] > words[0] {
+    if *count > *len {
         return Err(BitsFault::TooManyRuns);
     }
-    let end = 2 + words[1] as usize;
+    let len = *len as usize;
+    let end = 2 + *count as usize;
     if words.len() < end {
         return Err(BitsFault::Short);
     }
-    if !are_lawful(&words[2..end], words[0] as usize) {
+    let runs = &words[2..end];
+    if !are_lawful(runs, len) {
         return Err(BitsFault::WrongContent);
     }
-    Ok(end)
+    Ok((RunBits { runs, len }, end))
 }
 
-impl<'a> RunBits<'a> {
-    // The row at the front of the words, or an empty one if there is none.
-    pub fn new(words: &'a [u64]) -> RunBits<'a>
-        ensures read { run_bits result ≡ runs_read (run_read words.now) words.now }
-        ensures means { MeansBits words.now (run_bits result) }
+impl<'a> StoredRow<'a> for RunBits<'a> {
+    type Fault = BitsFault;
+
+    ghost HasRow = { HasBitRow };
+
+    ghost words_of = { run_words };
+
+    ghost room_of = { run_room };
+
+    ghost items_in = { run_bits_in };
+
+    ghost reading = { run_read };
+
+    fn check(words: &[u64]) -> Result<usize, BitsFault>
+        ensures answer { result ≡ run_read words.now }
+        ensures row { TakesRow run_words run_bits_in words.now result }
+        ensures found { FindsRow HasBitRow run_words run_room words.now result }
     {
-        let Ok(end) = check_run_bits(words) else {
+        Ok(read(words)?.1)
+    }
+
+    fn new(words: &'a [u64]) -> RunBits<'a> {
+        let Ok((row, _)) = read(words) else {
             return RunBits {
                 runs: &words[0..0],
                 len: 0,
             };
         };
-        RunBits {
-            runs: &words[2..end],
-            len: words[0] as usize,
-        }
+        row
     }
+
+    ghost room = { room_told };
 }

@@ -3,7 +3,7 @@ use Rattle.runs.specs.Runs.{size_of, end_of}
 use Rattle.runs.proofs.run_bitmap.RunBitsCountedBitmap.rank.Given as goal
 
 -- the runs so far are counted, and end before the place
-abbrev pub invariant-loop-run : goal.invariant-loop-run
-invariant-loop-run l =
-    (l.count ≡ sum_by size_of (take l.run-index l.self.runs.now))
-    × ((j : ℕ) → j < l.run-index → end_of (get_or l.self.runs.now j 0) ≤ l.place)
+abbrev pub invariant-loop-word : goal.invariant-loop-word
+invariant-loop-word l =
+    (l.count ≡ sum_by size_of (take l.word-index l.self.runs.now))
+    × ((j : ℕ) → j < l.word-index → end_of (get_or l.self.runs.now j 0) ≤ l.place)
