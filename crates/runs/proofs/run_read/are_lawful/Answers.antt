@@ -22,7 +22,7 @@ loop-word-preserved c =
     let i = c.loop-word.word-index in
     let len = c.args.len in
     let w : ℕ = get_or ws i 0 in
-    ap (λ n. runs_fit (n + 1) len (drop (i + 1) ws)) c.from-run.ensures.1
+    ap (λ n. runs_fit n len (drop (i + 1) ws)) (omega arith)
     ∙ sym (fit_step c.loop-word.from len w (drop (i + 1) ws) (omega arith) (omega arith) (omega arith))
     ∙ sym (at_drop_more (runs_fit c.loop-word.from len) ws i 0 (omega arith))
     ∙ c.loop-word.invariant

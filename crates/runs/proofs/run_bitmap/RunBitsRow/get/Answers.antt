@@ -1,6 +1,7 @@
 use Rattle.std.proofs.Common.{◌≡◌, ℕ, leb, false, Some, None, Option, sym, refl, ap, ◌∙◌, rules, arith}
+use Rattle.std.specs.Option.{option_map}
 use Rattle.bitmaps.proofs.Tested.{nth-told, nth_past_told}
-use Rattle.runs.specs.Runs.{in_runs}
+use Rattle.runs.specs.Runs.{first_of, in_runs, run_after}
 use Rattle.runs.proofs.RunPlaces.{begun_none, begun_covers}
 use Rattle.runs.proofs.run_bitmap.RunBitsRow.get.Goals as goal
 
@@ -13,10 +14,12 @@ returns-then-place-self c =
 covered : (c : goal.After-is_some_and) (r : Option ℕ) → c.begin_after.result ≡ r → c.is_some_and.result ≡ in_runs c.args.self.now.runs.now c.args.place
 covered c None e =
     let told : c.is_some_and.result ≡ false = search rules in
-    told ∙ sym (begun_none c.args.self.now.runs.now c.args.place (sym c.begin_after.ensures ∙ e) c.args.place (omega arith))
+    let none : option_map first_of (run_after c.args.self.now.runs.now c.args.place) ≡ None = search rules in
+    told ∙ sym (begun_none c.args.self.now.runs.now c.args.place none c.args.place (omega arith))
 covered c (Some first) e =
     let told : c.is_some_and.result ≡ leb first c.args.place = search rules in
-    told ∙ sym (begun_covers c.args.self.now.len c.args.self.now.runs.now c.args.self.now.lawful c.args.place first (sym c.begin_after.ensures ∙ e))
+    let some : option_map first_of (run_after c.args.self.now.runs.now c.args.place) ≡ Some first = search rules in
+    told ∙ sym (begun_covers c.args.self.now.len c.args.self.now.runs.now c.args.self.now.lawful c.args.place first some)
 
 pub returns : goal.returns
 returns c =
