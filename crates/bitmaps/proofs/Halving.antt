@@ -89,7 +89,7 @@ module _ (word nth place rest : ℕ) where
   narrowed_low i h n less = low_half n.0 i h n.1 n.2 n.3 n.4 less
 
   -- one bit left
-  pub narrowed_all : (i : ℕ) → 6 ≤ i → Narrowed word nth i place rest → (bit_of word place ≡ true) × (ones (word % 2 ^ place) + 1 ≡ nth)
+  pub narrowed_all : (i : ℕ) → 6 ≤ i → Narrowed word nth i place rest → bit_of word place ≡ true
   unfolding bit_of
   narrowed_all i h n =
       let last : n.0 ≡ 0 = omega (arith, n.1) in
@@ -97,6 +97,6 @@ module _ (word nth place rest : ℕ) where
       let bit : ℕ = word / 2 ^ place % 2 in
       let most : ones bit ≤ 1 = ones-le 1 bit (omega arith) in
       ⊎_elim
-      (λ e. (eq-eqb bit 1 e, omega (arith, n.3, n.4)))
+      (λ e. eq-eqb bit 1 e)
       (λ d. let z : bit ≡ 0 = omega arith in absurd (omega (arith, n.3, ap ones z ∙ ones_none)))
       (cases_eq bit 1)

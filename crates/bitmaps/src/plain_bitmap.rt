@@ -38,6 +38,7 @@ impl<'a> PlainBits<'a> {
         let block = (end - 1) / 512;
         let before = self.directory[block] as usize;
         let whole = ones_in(&self.words[8 * block..end / 64]);
+        // Where no word follows, none of its bits is counted.
         let last = self.words.get(end / 64).copied().unwrap_or(0);
         let low = (1 << (end % 64)) - 1;
         before + whole + (last & low).count_ones() as usize

@@ -1,12 +1,11 @@
 // Reading a row of plain bits from words that may go on after it.
 ghost use Rattle.bitmaps.specs.PlainRoom.{room_told};
-ghost use Rattle.bitmaps.specs.BitRows.{HasBitRow};
+ghost use Rattle.bitmaps.specs.BitRows.{HasBitRow, room_taken};
 ghost use Rattle.bitmaps.specs.PlainMeaning.{plain_bits};
 ghost use Rattle.bitmaps.specs.PlainRows.{plain_words, plain_room, plain_bits_in, plain_read};
 ghost use Rattle.bits.specs.StoredRows.{TakesRow, FindsRow};
 ghost use Rattle.bits.specs.Words.{spare_zero};
 ghost use Rattle.std.specs.Prelude.{◌≡◌, ◌*◌, ◌≤◌, IfOk, length};
-ghost use Rattle.std.specs.Result.{result_map_both};
 
 use crate::fault::BitsFault;
 use crate::plain::PlainBits;
@@ -16,7 +15,7 @@ use bits::{BareBits, MAX_LEN, StoredRow};
 // The row at the front of the words and how many of them it takes, or the first fault.
 #[tactic(auto, using(std::proofs::lemmas::Bool::Decides::nat_tests, crate::proofs::PlainReading::bits_cut, crate::proofs::PlainReading::directory_cut), unfolding(crate::specs::PlainRows::plain_read))]
 fn read(words: &[u64]) -> Result<(PlainBits<'_>, usize), BitsFault>
-    ensures room { result_map_both (λ row. row.1) (λ fault. fault) result ≡ plain_read words.now }
+    ensures room { room_taken result ≡ plain_read words.now }
     ensures bits { IfOk result (λ row. plain_bits row.0 ≡ plain_bits_in words.now) }
 {
     let first = *words.first().ok_or(BitsFault::Short)?;
@@ -66,6 +65,7 @@ impl<'a> StoredRow<'a> for PlainBits<'a> {
 
     ghost reading = { plain_read };
 
+    // The clauses are those of the trait: this method does not get them by itself.
     fn check(words: &[u64]) -> Result<usize, BitsFault>
         ensures answer { result ≡ plain_read words.now }
         ensures row { TakesRow plain_words plain_bits_in words.now result }
@@ -77,8 +77,8 @@ impl<'a> StoredRow<'a> for PlainBits<'a> {
     fn new(words: &'a [u64]) -> PlainBits<'a> {
         let Ok((row, _)) = read(words) else {
             return PlainBits {
-                words: &words[0..0],
-                directory: &words[0..0],
+                words: &[],
+                directory: &[],
                 len: 0,
             };
         };

@@ -29,11 +29,6 @@ run_from from len (w ∷ ws) (suc i) e h =
     let p = fit_parts from len w ws e in
     omega (arith, p.0, run_from (end_of w + 1) len ws i p.3 (omega arith))
 
-pub run_some : (from len : ℕ) (ws : List ℕ) (i : ℕ) → runs_fit from len ws ≡ true → i < length ws → 0 < size_of (get_or ws i 0)
-run_some from len [] i e h = absurd (omega arith)
-run_some from len (w ∷ ws) zero e h = (fit_parts from len w ws e).1
-run_some from len (w ∷ ws) (suc i) e h = run_some (end_of w + 1) len ws i (fit_parts from len w ws e).3 (omega arith)
-
 pub run_ends : (from len : ℕ) (ws : List ℕ) (i : ℕ) → runs_fit from len ws ≡ true → i < length ws → end_of (get_or ws i 0) ≤ len
 run_ends from len [] i e h = absurd (omega arith)
 run_ends from len (w ∷ ws) zero e h = (fit_parts from len w ws e).2

@@ -1,8 +1,8 @@
 -- Reading the words of runs. Assumes nothing.
-use Rattle.std.proofs.Common.{◌≡◌, ℕ, ◌+◌, ◌-◌, ◌<◌, ◌≤◌, true, false, ◌⊎◌, List, ◌∷◌, length, get_or, take, drop, Ok, ap, arith}
+use Rattle.std.proofs.Common.{◌≡◌, ℕ, ◌+◌, ◌-◌, ◌≤◌, true, List, length, get_or, take, drop, Ok, ap, arith}
 use Rattle.std.proofs.lemmas.Bool.Decides.{nat_tests}
 use Rattle.runs.specs.RunRows.{run_read, runs_in}
-use Rattle.runs.specs.Runs.{first_of, size_of, end_of, runs_fit}
+use Rattle.runs.specs.Runs.{runs_fit}
 
 -- what is cut out are the words of the runs
 pub runs_cut : (ws : List ℕ) (n : ℕ) → take (2 + n - 2) (drop 2 ws) ≡ take n (drop 2 ws)
@@ -21,11 +21,3 @@ row_facts ws n e = grind (arith, nat_tests)
 pub row_read : (ws : List ℕ) → IsRow ws → Ok (2 + get_or ws 1 0) ≡ run_read ws
 unfolding run_read
 row_read ws is = grind (arith, nat_tests)
-
--- one run more
-pub fit_step : (from len w : ℕ) (ws : List ℕ) → from ≤ first_of w → 0 < size_of w → end_of w ≤ len → runs_fit from len (w ∷ ws) ≡ runs_fit (end_of w + 1) len ws
-fit_step from len w ws a b c = grind (arith, nat_tests)
-
--- a run that is not lawful
-pub fit_fails : (from len w : ℕ) (ws : List ℕ) → (first_of w < from) ⊎ ((size_of w ≡ 0) ⊎ (len < end_of w)) → runs_fit from len (w ∷ ws) ≡ false
-fit_fails from len w ws h = grind (arith, nat_tests)

@@ -1,5 +1,5 @@
 // Reading a row of runs from words that may go on after it.
-ghost use Rattle.bitmaps.specs.BitRows.{HasBitRow};
+ghost use Rattle.bitmaps.specs.BitRows.{HasBitRow, room_taken};
 ghost use Rattle.bits.specs.StoredRows.{TakesRow, FindsRow};
 ghost use Rattle.runs.specs.RunMeaning.{run_bits};
 ghost use Rattle.runs.specs.RunRows.{run_read, run_bits_in};
@@ -7,7 +7,6 @@ ghost use Rattle.runs.specs.RunRoom.{room_told};
 ghost use Rattle.runs.specs.RunWords.{run_words, run_room};
 ghost use Rattle.runs.specs.Runs.{runs_fit};
 ghost use Rattle.std.specs.Prelude.{◌≡◌, IfOk};
-ghost use Rattle.std.specs.Result.{result_map_both};
 
 use crate::run::Run;
 use crate::view::RunBits;
@@ -32,7 +31,7 @@ fn are_lawful(runs: &[u64], len: usize) -> bool
 // The row at the front of the words and how many of them it takes, or the first fault.
 #[tactic(auto, using(std::proofs::lemmas::Bool::Decides::nat_tests, crate::proofs::RunReading::runs_cut), unfolding(crate::specs::RunRows::run_read))]
 fn read(words: &[u64]) -> Result<(RunBits<'_>, usize), BitsFault>
-    ensures room { result_map_both (λ row. row.1) (λ fault. fault) result ≡ run_read words.now }
+    ensures room { room_taken result ≡ run_read words.now }
     ensures bits { IfOk result (λ row. run_bits row.0 ≡ run_bits_in words.now) }
 {
     let [len, count, ..] = words else {
@@ -69,6 +68,7 @@ impl<'a> StoredRow<'a> for RunBits<'a> {
 
     ghost reading = { run_read };
 
+    // The clauses are those of the trait: this method does not get them by itself.
     fn check(words: &[u64]) -> Result<usize, BitsFault>
         ensures answer { result ≡ run_read words.now }
         ensures row { TakesRow run_words run_bits_in words.now result }
@@ -79,10 +79,7 @@ impl<'a> StoredRow<'a> for RunBits<'a> {
 
     fn new(words: &'a [u64]) -> RunBits<'a> {
         let Ok((row, _)) = read(words) else {
-            return RunBits {
-                runs: &words[0..0],
-                len: 0,
-            };
+            return RunBits { runs: &[], len: 0 };
         };
         row
     }

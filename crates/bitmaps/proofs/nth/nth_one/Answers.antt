@@ -17,7 +17,4 @@ loop-half-preserved c =
     ]
 
 pub returns-clause-one : goal.returns-clause-one
-returns-clause-one c = (narrowed_all c.args.word c.args.nth c.loop-half.place c.loop-half.rest c.loop-half.half-index (omega arith) c.loop-half.invariant).0
-
-pub returns-clause-before : goal.returns-clause-before
-returns-clause-before c = (narrowed_all c.args.word c.args.nth c.loop-half.place c.loop-half.rest c.loop-half.half-index (omega arith) c.loop-half.invariant).1
+returns-clause-one c = narrowed_all c.args.word c.args.nth c.loop-half.place c.loop-half.rest c.loop-half.half-index (omega arith) c.loop-half.invariant
