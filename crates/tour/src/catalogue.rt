@@ -6,7 +6,6 @@ use crate::names::{
     VERNE, WALDEN, WHALING,
 };
 use quads::Quad;
-use std::alloc::{AllocError, Global};
 
 const ROWS: [(u32, u32, u32, u32); 31] = [
     (MOBY_DICK, AUTHOR, MELVILLE, EDITION_1861),
@@ -43,10 +42,6 @@ const ROWS: [(u32, u32, u32, u32); 31] = [
 ];
 
 // The rows as quads.
-pub fn statements(heap: Global) -> Result<Vec<Quad>, AllocError> {
-    let mut quads = Vec::new(heap);
-    for (s, p, o, g) in ROWS {
-        quads.push(Quad::new(s, p, o, g))?;
-    }
-    Ok(quads)
+pub(crate) fn statements() -> [Quad; 31] {
+    ROWS.map(|(s, p, o, g)| Quad::new(s, p, o, g))
 }
