@@ -1,66 +1,61 @@
 // Checking quads as a plain list, and the plain list of quads that were turned down.
-use crate::draws::{Draws, only, with};
+use crate::draws::Draws;
 use crate::numbers::BOUNDS;
-use crate::show::{print_found, print_quads};
+use crate::parts::Part;
+use crate::show::{Found, Quads, Verdict};
 use quads::{Pattern, PlainList, Quad, QuadSource, check_plain};
 use std::io;
 
-pub const LOWEST: Quad = Quad {
-    s: 0,
-    p: 0,
-    o: 0,
-    g: 0,
+const ONES: Quad = Quad {
+    s: 1,
+    p: 1,
+    o: 1,
+    g: 1,
 };
 
-pub fn run(rt: &HostRuntime) -> io::Result<()> {
-    let ones = Quad::new(1, 1, 1, 1);
-    let twos = Quad::new(2, 2, 2, 2);
+const TWOS: Quad = Quad {
+    s: 2,
+    p: 2,
+    o: 2,
+    g: 2,
+};
+
+pub(crate) fn run(rt: &(impl Print + AllocGlobal)) -> io::Result<()> {
     line(rt, &[])?;
-    line(rt, &[ones, twos])?;
-    line(rt, &[twos, ones])?;
-    line(rt, &[ones, ones])?;
-    line(rt, &[twos, LOWEST])?;
-    line(rt, &[twos, ones, LOWEST])?;
-    line(rt, &[ones, twos, ones, LOWEST])?;
-    for place in 0..4u32 {
+    line(rt, &[ONES, TWOS])?;
+    line(rt, &[TWOS, ONES])?;
+    line(rt, &[ONES, ONES])?;
+    line(rt, &[TWOS, Quad::LOWEST])?;
+    line(rt, &[TWOS, ONES, Quad::LOWEST])?;
+    line(rt, &[ONES, TWOS, ONES, Quad::LOWEST])?;
+    for part in Part::ALL {
         for number in BOUNDS {
-            bounds_lines(rt, place, number)?;
+            bounds_lines(rt, part.changed(TWOS, number))?;
         }
     }
     let mut draws = Draws::new(202);
     for _ in 0..300 {
-        let values = draws.values();
-        let quads = draws.spoiled_list(rt.alloc(), values)?;
-        line(rt, quads.as_slice())?;
+        line(rt, &draws.spoiled_list(rt.alloc())?)?;
     }
     Ok(())
 }
 
-// The number at one place of an only quad, of the last quad and of a middle one.
-fn bounds_lines(rt: &HostRuntime, place: u32, number: u32) -> io::Result<()> {
-    let ones = Quad::new(1, 1, 1, 1);
-    let twos = Quad::new(2, 2, 2, 2);
-    let changed = with(twos, place, number);
-    line(rt, &[changed])?;
-    line(rt, &[ones, changed])?;
-    line(rt, &[twos, changed])?;
-    line(rt, &[ones, changed, twos])
+// The quad as the only one, as the last one and as a middle one.
+fn bounds_lines(rt: &impl Print, quad: Quad) -> io::Result<()> {
+    line(rt, &[quad])?;
+    line(rt, &[ONES, quad])?;
+    line(rt, &[TWOS, quad])?;
+    line(rt, &[ONES, quad, TWOS])
 }
 
-// The verdict, and the first quad of the plain list that is made of the quads.
-fn line(rt: &HostRuntime, quads: &[Quad]) -> io::Result<()> {
-    print!(rt; "check")?;
-    print_quads(rt, quads)?;
-    match check_plain(quads) {
-        Ok(()) => print!(rt; ": ok")?,
-        Err(refusal) => {
-            let number = refusal.number();
-            let place = refusal.place();
-            print!(rt; ": {number} at {place}")?;
-        }
-    }
+// The verdict, and the first quads of the plain list that is made of the quads.
+fn line(rt: &impl Print, quads: &[Quad]) -> io::Result<()> {
     let list = PlainList::new(quads);
-    print_found(rt, list.first(Pattern::ANY, LOWEST))?;
-    print_found(rt, list.first(only(0, 2), LOWEST))?;
-    println!(rt; "")
+    println!(rt;
+        "check{}: {} {} {}",
+        Quads(quads),
+        Verdict(check_plain(quads)),
+        Found(list.first(Pattern::ANY, Quad::LOWEST)),
+        Found(list.first(Part::Subject.only(2), Quad::LOWEST))
+    )
 }

@@ -1,9 +1,13 @@
 // Drawing the cases: a row of numbers that looks random and is the same in each run, and what is made of it.
+ghost use Rattle.std.specs.Prelude.{◌<◌};
+
+use crate::parts::Part;
 use quads::{Mark, Pattern, Place, Quad};
 use std::alloc::{AllocError, Global};
+use std::array;
 
 // The numbers of drawn quads: three for each list, ascending.
-pub type Values = [u32; 3];
+type Values = [u32; 3];
 
 const VALUES: [Values; 4] = [
     [1, 2, 3],
@@ -15,45 +19,48 @@ const VALUES: [Values; 4] = [
 // Numbers that are no IDs.
 const NO_IDS: [u32; 3] = [0, 1_048_577, 4_294_967_295];
 
+// Whether a place of a pattern is open or given.
+#[derive(Clone, Copy)]
+pub(crate) enum Kind {
+    Open,
+    Given,
+}
+
+impl Kind {
+    pub(crate) const BOTH: [Kind; 2] = [Kind::Open, Kind::Given];
+}
+
 #[derive(Drop)]
-pub struct Draws {
+pub(crate) struct Draws {
     state: u32,
+    // The numbers of the list that was drawn last, and of what is drawn for it.
+    values: Values,
 }
 
 impl Draws {
-    pub fn new(seed: u32) -> Draws {
-        Draws { state: seed }
+    pub(crate) fn new(seed: u32) -> Draws {
+        Draws {
+            state: seed,
+            values: VALUES[0],
+        }
     }
 
-    // The next number of the row.
-    fn step(&mut self) -> u32 {
+    // A number below the bound, the next of the row.
+    pub(crate) fn below(&mut self, bound: u32) -> u32
+        requires { 0 < bound }
+        ensures { result < bound }
+    {
         self.state = self.state.wrapping_mul(1_103_515_245).wrapping_add(12_345) & 0x7fff_ffff;
-        self.state >> 8
+        (self.state >> 8) % bound
     }
 
-    // A number below the bound, or 0 where the bound is 0.
-    pub fn below(&mut self, bound: u32) -> u32 {
-        self.step().checked_rem(bound).unwrap_or(0)
-    }
-
-    // A place below the bound, or 0 where the bound is 0.
-    pub fn place(&mut self, bound: usize) -> usize {
-        (self.step() as usize).checked_rem(bound).unwrap_or(0)
-    }
-
-    // One of the numbers, or 0 where there is none.
-    fn pick(&mut self, numbers: &[u32]) -> u32 {
-        let place = self.place(numbers.len());
-        numbers.get(place).copied().unwrap_or(0)
-    }
-
-    pub fn values(&mut self) -> Values {
-        let place = self.place(4);
-        VALUES[place % 4]
+    // One of these.
+    fn pick(&mut self, numbers: [u32; 3]) -> u32 {
+        numbers[self.below(3) as usize]
     }
 
     // Mostly one of the first three cursors, else any number up to 9.
-    pub fn cursor(&mut self) -> u32 {
+    pub(crate) fn cursor(&mut self) -> u32 {
         if self.below(8) == 0 {
             self.below(10)
         } else {
@@ -61,147 +68,135 @@ impl Draws {
         }
     }
 
-    // A number for a place of a mark, on or around the values, or at an end of the 32-bit numbers.
-    fn mark_number(&mut self, values: Values) -> u32 {
+    // A number for a part of a mark, on or around the values, or at an end of the 32-bit numbers.
+    fn mark_number(&mut self) -> u32 {
         match self.below(8) {
             0 => 0,
             1 => u32::MAX,
-            2 => self.pick(&values).wrapping_add(1),
-            3 => self.pick(&values).wrapping_sub(1),
-            _ => self.pick(&values),
+            2 => self.pick(self.values).wrapping_add(1),
+            3 => self.pick(self.values).wrapping_sub(1),
+            _ => self.pick(self.values),
         }
     }
 
-    pub fn mark(&mut self, values: Values) -> Mark {
-        let s = self.mark_number(values);
-        let p = self.mark_number(values);
-        let o = self.mark_number(values);
-        let g = self.mark_number(values);
-        Quad::new(s, p, o, g)
+    pub(crate) fn mark(&mut self) -> Mark {
+        Quad {
+            s: self.mark_number(),
+            p: self.mark_number(),
+            o: self.mark_number(),
+            g: self.mark_number(),
+        }
     }
 
-    // A given place: mostly one of the values, now and then another ID, or a number that is none.
-    pub fn given(&mut self, values: Values) -> Place {
-        let number = match self.below(40) {
-            0 => self.pick(&NO_IDS),
-            1 => 4,
-            _ => self.pick(&values),
-        };
-        Place::Given(number)
+    // A place of this kind. A given one has mostly one of the values, now and then another ID, or a number that is none.
+    pub(crate) fn place(&mut self, kind: Kind) -> Place {
+        match kind {
+            Kind::Open => Place::Any,
+            Kind::Given => Place::Given(match self.below(40) {
+                0 => self.pick(NO_IDS),
+                1 => 4,
+                _ => self.pick(self.values),
+            }),
+        }
     }
 
-    fn any_or_given(&mut self, values: Values) -> Place {
+    // A place that is open two times in three.
+    fn any_place(&mut self) -> Place {
         if self.below(3) == 0 {
-            self.given(values)
+            self.place(Kind::Given)
         } else {
             Place::Any
         }
     }
 
-    pub fn pattern(&mut self, values: Values) -> Pattern {
-        let s = self.any_or_given(values);
-        let p = self.any_or_given(values);
-        let o = self.any_or_given(values);
-        let g = self.any_or_given(values);
-        Pattern { s, p, o, g }
+    pub(crate) fn pattern(&mut self) -> Pattern {
+        Pattern {
+            s: self.any_place(),
+            p: self.any_place(),
+            o: self.any_place(),
+            g: self.any_place(),
+        }
     }
 
-    // Some of the 81 quads of the values, in ascending order.
-    pub fn list(&mut self, heap: Global, values: Values) -> Result<Vec<Quad>, AllocError> {
-        let rarity = self.below(16).wrapping_add(5);
-        let mut quads = Vec::new(heap);
-        for n in 0..81usize {
+    // All quads of three numbers that are chosen here.
+    fn all_quads(&mut self) -> [Quad; 81] {
+        self.values = VALUES[self.below(4) as usize];
+        let values = self.values;
+        array::from_fn(|rank| Quad {
+            s: values[rank / 27 % 3],
+            p: values[rank / 9 % 3],
+            o: values[rank / 3 % 3],
+            g: values[rank % 3],
+        })
+    }
+
+    // Some of the quads, in ascending order. A loop, since a filter's closure would need a clause that the rarity is not 0.
+    pub(crate) fn list(&mut self, heap: Global) -> Result<Vec<Quad>, AllocError> {
+        let mut list = Vec::new(heap);
+        let quads = self.all_quads();
+        let rarity = self.below(16) + 5;
+        for quad in quads {
             if self.below(rarity) == 0 {
-                quads.push(quad_at(values, n))?;
+                list.push(quad)?;
             }
         }
-        Ok(quads)
+        Ok(list)
     }
 
     // The same, with a few quads among them that may not stand there.
-    pub fn spoiled_list(&mut self, heap: Global, values: Values) -> Result<Vec<Quad>, AllocError> {
-        let rarity = self.below(8).wrapping_add(9);
-        let mut quads = Vec::new(heap);
-        for n in 0..81usize {
+    pub(crate) fn spoiled_list(&mut self, heap: Global) -> Result<Vec<Quad>, AllocError> {
+        let mut list = Vec::new(heap);
+        let quads = self.all_quads();
+        let rarity = self.below(8) + 9;
+        for quad in quads {
             if self.below(rarity) == 0 {
-                let quad = quad_at(values, n);
-                quads.push(quad)?;
+                list.push(quad)?;
                 if self.below(9) == 0 {
-                    quads.push(self.spoiled(quad, values))?;
+                    list.push(self.spoiled(quad))?;
                 }
             }
         }
-        Ok(quads)
+        Ok(list)
     }
 
-    // The same quad, or one that differs at one place.
-    fn spoiled(&mut self, quad: Quad, values: Values) -> Quad {
-        let place = self.below(4);
+    // The same quad, or one that differs at one part.
+    fn spoiled(&mut self, quad: Quad) -> Quad {
+        let part = Part::ALL[self.below(4) as usize];
         match self.below(3) {
             0 => quad,
-            1 => with(quad, place, self.pick(&NO_IDS)),
-            _ => with(quad, place, self.pick(&values)),
+            1 => part.changed(quad, self.pick(NO_IDS)),
+            _ => part.changed(quad, self.pick(self.values)),
         }
     }
 
     // As the list, with each quad up to three times.
-    pub fn tied_list(&mut self, heap: Global, values: Values) -> Result<Vec<Quad>, AllocError> {
-        let mut quads = Vec::new(heap);
-        for n in 0..81usize {
+    pub(crate) fn tied_list(&mut self, heap: Global) -> Result<Vec<Quad>, AllocError> {
+        let mut list = Vec::new(heap);
+        for quad in self.all_quads() {
             if self.below(16) == 0 {
                 for _ in 0..self.below(4) {
-                    quads.push(quad_at(values, n))?;
+                    list.push(quad)?;
                 }
             }
         }
-        Ok(quads)
+        Ok(list)
     }
 
-    // Numbers that ascend, with ties, or in any order.
-    pub fn numbers(&mut self, heap: Global, ascending: bool) -> Result<Vec<u64>, AllocError> {
-        let mut numbers = Vec::new(heap);
+    // A few numbers in any order.
+    pub(crate) fn numbers(&mut self, heap: Global) -> Result<Vec<u64>, AllocError> {
+        (0..self.below(9))
+            .map(|_| u64::from(self.below(4)))
+            .collect(heap)
+    }
+
+    // A few numbers that ascend, with ties.
+    pub(crate) fn ascending_numbers(&mut self, heap: Global) -> Result<Vec<u64>, AllocError> {
+        let mut numbers = self.numbers(heap)?;
         let mut last = 0u64;
-        for _ in 0..self.below(9) {
-            let step = u64::from(self.below(4));
-            last = if ascending {
-                last.wrapping_add(step)
-            } else {
-                step
-            };
-            numbers.push(last)?;
+        for number in numbers.iter_mut() {
+            last = last.wrapping_add(*number);
+            *number = last;
         }
         Ok(numbers)
-    }
-}
-
-// The quad of this rank among the 81 quads of the values.
-fn quad_at(values: Values, rank: usize) -> Quad {
-    Quad::new(
-        values[rank / 27 % 3],
-        values[rank / 9 % 3],
-        values[rank / 3 % 3],
-        values[rank % 3],
-    )
-}
-
-// The quad with another number at the place: 0 for s, 1 for p, 2 for o, 3 for g.
-pub fn with(quad: Quad, place: u32, number: u32) -> Quad {
-    match place {
-        0 => Quad { s: number, ..quad },
-        1 => Quad { p: number, ..quad },
-        2 => Quad { o: number, ..quad },
-        _ => Quad { g: number, ..quad },
-    }
-}
-
-// The pattern that gives a number at one place and leaves the others open.
-pub fn only(place: u32, number: u32) -> Pattern {
-    let open = Pattern::ANY;
-    let given = Place::Given(number);
-    match place {
-        0 => Pattern { s: given, ..open },
-        1 => Pattern { p: given, ..open },
-        2 => Pattern { o: given, ..open },
-        _ => Pattern { g: given, ..open },
     }
 }

@@ -1,13 +1,13 @@
 // Many cases of the public calls, with a line for each answer. What must come out is written by tools/cases.py.
 #![tactic(auto)]
 
-mod answers;
 mod checks;
 mod draws;
 mod firsts;
 mod fixed;
 mod numbers;
 mod ordered_lists;
+mod parts;
 mod runner;
 mod sessions;
 mod show;

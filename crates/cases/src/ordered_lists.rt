@@ -1,8 +1,9 @@
 // The ordered list, over numbers and over quads.
 use crate::draws::Draws;
-use crate::show::{Dots, print_quads, print_test};
-use ordered::OrderedList;
-use std::io;
+use crate::show::{At, Dots, Quads, Row, Test};
+use ordered::{Ordered, OrderedList};
+use quads::Mark;
+use std::{array, io};
 
 const WIDE: [u64; 6] = [0, 1, 4_294_967_295, 4_294_967_296, u64::MAX, u64::MAX];
 
@@ -17,7 +18,7 @@ const WIDE_KEYS: [u64; 8] = [
     u64::MAX,
 ];
 
-pub fn run(rt: &HostRuntime) -> io::Result<()> {
+pub(crate) fn run(rt: &(impl Print + AllocGlobal)) -> io::Result<()> {
     numbers_line(rt, &[], &[0, 1, u64::MAX])?;
     numbers_line(rt, &[5], &[0, 4, 5, 6, u64::MAX])?;
     numbers_line(rt, &[5, 5, 5], &[4, 5, 6])?;
@@ -31,75 +32,55 @@ pub fn run(rt: &HostRuntime) -> io::Result<()> {
         drawn_quads(rt, &mut draws)?;
     }
     for _ in 0..30 {
-        drawn_unordered(rt, &mut draws)?;
-        drawn_unordered_quads(rt, &mut draws)?;
+        let numbers = draws.numbers(rt.alloc())?;
+        within_line(rt, &numbers, &[0, 1, 2, 3, 4, 5])?;
+        let quads = draws.spoiled_list(rt.alloc())?;
+        within_line(rt, &quads, &six_marks(&mut draws))?;
     }
     Ok(())
 }
 
 // The entries, and for each key the place of the first entry that is not below it.
-fn numbers_line(rt: &HostRuntime, entries: &[u64], keys: &[u64]) -> io::Result<()> {
-    print!(rt; "numbers")?;
-    for entry in entries {
-        print!(rt; " {entry}")?;
-    }
-    print!(rt; ":")?;
+fn numbers_line(rt: &(impl Print + AllocGlobal), entries: &[u64], keys: &[u64]) -> io::Result<()> {
     let list = OrderedList::new(entries);
-    for key in keys {
-        let place = list.first_not_below(key);
-        print!(rt; " {key}@{place}")?;
-    }
-    println!(rt; "")
+    let found: Vec<At<u64>> = keys
+        .iter()
+        .map(|key| At(*key, list.first_not_below(key)))
+        .collect(rt.alloc())?;
+    println!(rt; "numbers{}:{}", Row(entries), Row(&found))
 }
 
-fn drawn_numbers(rt: &HostRuntime, draws: &mut Draws) -> io::Result<()> {
-    let entries = draws.numbers(rt.alloc(), true)?;
-    let mut keys = Vec::new(rt.alloc());
-    for _ in 0..8 {
-        keys.push(u64::from(draws.below(16)))?;
-    }
-    numbers_line(rt, entries.as_slice(), keys.as_slice())
+fn drawn_numbers(rt: &(impl Print + AllocGlobal), draws: &mut Draws) -> io::Result<()> {
+    let entries = draws.ascending_numbers(rt.alloc())?;
+    let keys: [u64; 8] = array::from_fn(|_| u64::from(draws.below(16)));
+    numbers_line(rt, &entries, &keys)
 }
 
-fn drawn_quads(rt: &HostRuntime, draws: &mut Draws) -> io::Result<()> {
-    let values = draws.values();
-    let quads = draws.tied_list(rt.alloc(), values)?;
-    print!(rt; "quads")?;
-    print_quads(rt, quads.as_slice())?;
-    print!(rt; ":")?;
-    let list = OrderedList::new(quads.as_slice());
-    for quad in quads.iter() {
-        let place = list.first_not_below(quad);
-        print!(rt; " {place}")?;
-    }
-    for _ in 0..6 {
-        let key = draws.mark(values);
-        let place = list.first_not_below(&key);
-        let dots = Dots(key);
-        print!(rt; " {dots}@{place}")?;
-    }
-    println!(rt; "")
+fn drawn_quads(rt: &(impl Print + AllocGlobal), draws: &mut Draws) -> io::Result<()> {
+    let quads = draws.tied_list(rt.alloc())?;
+    let list = OrderedList::new(&quads);
+    let places: Vec<usize> = quads
+        .iter()
+        .map(|quad| list.first_not_below(quad))
+        .collect(rt.alloc())?;
+    let found = six_marks(draws).map(|mark| At(Dots(mark), list.first_not_below(&mark)));
+    println!(rt; "quads{}:{}{}", Quads(&quads), Row(&places), Row(&found))
+}
+
+fn six_marks(draws: &mut Draws) -> [Mark; 6] {
+    array::from_fn(|_| draws.mark())
 }
 
 // On entries in any order the answer is a place within the slice or its length.
-fn drawn_unordered(rt: &HostRuntime, draws: &mut Draws) -> io::Result<()> {
-    let entries = draws.numbers(rt.alloc(), false)?;
-    let list = OrderedList::new(entries.as_slice());
-    print!(rt; "within")?;
-    for key in 0..6u64 {
-        print_test(rt, list.first_not_below(&key) <= entries.len())?;
-    }
-    println!(rt; "")
-}
-
-fn drawn_unordered_quads(rt: &HostRuntime, draws: &mut Draws) -> io::Result<()> {
-    let values = draws.values();
-    let quads = draws.spoiled_list(rt.alloc(), values)?;
-    let list = OrderedList::new(quads.as_slice());
-    print!(rt; "within")?;
-    for _ in 0..6 {
-        let key = draws.mark(values);
-        print_test(rt, list.first_not_below(&key) <= quads.len())?;
-    }
-    println!(rt; "")
+fn within_line<T: Ordered>(
+    rt: &(impl Print + AllocGlobal),
+    entries: &[T],
+    keys: &[T],
+) -> io::Result<()> {
+    let list = OrderedList::new(entries);
+    let within: Vec<Test> = keys
+        .iter()
+        .map(|key| Test(list.first_not_below(key) <= entries.len()))
+        .collect(rt.alloc())?;
+    println!(rt; "within{}", Row(&within))
 }

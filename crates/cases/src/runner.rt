@@ -1,95 +1,116 @@
 // Making the calls of a session, and printing what each is and what it answers. A roll's buffer is printed after the call.
-use crate::answers::{counted, given, opened, rolled};
-use crate::checks::LOWEST;
-use crate::show::{Asked, Told, print_numbers};
-use crate::transcripts::print_comparison;
-use quads::{Mark, Pattern, PlainList};
-use session::{Ask, Call, Session};
-use std::alloc::Global;
+use crate::show::{Line, Row};
+use quads::{Mark, PlainList, Quad};
+use session::{Ask, Call, Refusal, Session};
 use std::io;
 use transcript::{Answer, Record};
 
 #[derive(Drop)]
-pub struct Runner<'a, 'q> {
+pub(crate) struct Runner<'a, 'q, R> {
+    rt: &'a R,
     list: &'a PlainList<'q>,
     session: Session<'a, PlainList<'q>>,
     // The calls so far, with what the session answered.
     records: Vec<Record>,
     // The last quad that was given to any cursor.
-    pub last: Mark,
+    pub(crate) last: Mark,
 }
 
-impl<'a, 'q> Runner<'a, 'q> {
-    pub fn new(heap: Global, list: &'a PlainList<'q>) -> Runner<'a, 'q> {
+impl<'a, 'q, R: Print + AllocGlobal> Runner<'a, 'q, R> {
+    pub(crate) fn new(rt: &'a R, list: &'a PlainList<'q>) -> Runner<'a, 'q, R> {
         Runner {
+            rt,
             list,
             session: Session::attach(list),
-            records: Vec::new(heap),
-            last: LOWEST,
+            records: Vec::new(rt.alloc()),
+            last: Quad::LOWEST,
         }
     }
 
-    pub fn open(&mut self, rt: &HostRuntime, cursor: u32, pattern: Pattern) -> io::Result<()> {
-        let answer = opened(self.session.open(cursor, pattern));
-        self.note(rt, Call::On(cursor, Ask::Open(pattern)), answer)
+    // Begins a new session.
+    pub(crate) fn begin(&mut self, title: &str) -> io::Result<()> {
+        self.session = Session::attach(self.list);
+        self.records.clear();
+        println!(self.rt; "fixed: {title}")
     }
 
-    pub fn next(&mut self, rt: &HostRuntime, cursor: u32) -> io::Result<()> {
-        let answer = given(self.session.next(cursor));
-        if let Answer::Gave(quad) = answer {
+    // Asks a cursor these things in turn.
+    pub(crate) fn ask_each(&mut self, cursor: u32, asks: &[Ask]) -> io::Result<()> {
+        for ask in asks {
+            self.ask(cursor, *ask)?;
+        }
+        Ok(())
+    }
+
+    pub(crate) fn ask(&mut self, cursor: u32, ask: Ask) -> io::Result<()> {
+        let session = &mut self.session;
+        let answer = match ask {
+            Ask::Open(pattern) => session.open(cursor, pattern).map(|()| Answer::Opened),
+            Ask::Next => session.next(cursor).map(Answer::Next),
+            Ask::Seek(mark) => session.seek(cursor, mark).map(Answer::Counted),
+            Ask::Left => session.left(cursor).map(Answer::Counted),
+            Ask::Close => session.close(cursor).map(Answer::Counted),
+        };
+        if let Ok(Answer::Next(Some(quad))) = answer {
             self.last = quad;
         }
-        self.note(rt, Call::On(cursor, Ask::Next), answer)
+        self.note(Call::On(cursor, ask), answer)
     }
 
-    pub fn seek(&mut self, rt: &HostRuntime, cursor: u32, mark: Mark) -> io::Result<()> {
-        let answer = counted(self.session.seek(cursor, mark));
-        self.note(rt, Call::On(cursor, Ask::Seek(mark)), answer)
+    pub(crate) fn tally(&mut self) -> io::Result<()> {
+        let given = self.session.tally();
+        self.note(Call::Tally, Ok(Answer::Counted(given)))
     }
 
-    pub fn left(&mut self, rt: &HostRuntime, cursor: u32) -> io::Result<()> {
-        let answer = counted(self.session.left(cursor));
-        self.note(rt, Call::On(cursor, Ask::Left), answer)
-    }
-
-    pub fn close(&mut self, rt: &HostRuntime, cursor: u32) -> io::Result<()> {
-        let answer = counted(self.session.close(cursor));
-        self.note(rt, Call::On(cursor, Ask::Close), answer)
-    }
-
-    pub fn tally(&mut self, rt: &HostRuntime) -> io::Result<()> {
-        let answer = Answer::Counted(self.session.tally());
-        self.note(rt, Call::Tally, answer)
-    }
-
-    pub fn roll(&mut self, rt: &HostRuntime, buffer: &mut [u32]) -> io::Result<()> {
+    pub(crate) fn roll(&mut self, buffer: &mut [u32]) -> io::Result<()> {
         let result = self.session.roll(buffer);
         match result {
-            Ok(count) => print!(rt; "r r{count}")?,
-            Err(refusal) => {
-                let number = refusal.number();
-                print!(rt; "r !{number}")?;
-            }
+            Ok(count) => println!(self.rt; "r r{count}{}", Row(buffer))?,
+            Err(refusal) => println!(self.rt; "r !{}{}", refusal.number(), Row(buffer))?,
         }
-        print_numbers(rt, buffer)?;
-        println!(rt; "")?;
-        let call = Call::Roll(buffer.len());
-        let answer = rolled(result, buffer);
-        self.records.push(Record { call, answer })?;
+        self.records.push(Record {
+            call: Call::Roll(buffer.len()),
+            answer: Some(result.map(|count| Answer::Rolled(count, front(buffer, count)))),
+        })?;
         Ok(())
     }
 
     // Says whether a transcript of the same calls has the same answers.
-    pub fn compare(&self, rt: &HostRuntime) -> io::Result<()> {
-        print_comparison(rt, self.list, self.records.as_slice())
+    pub(crate) fn compare(&self) -> io::Result<()> {
+        let mut again: Vec<Record> = self
+            .records
+            .iter()
+            .map(|record| Record::new(record.call))
+            .collect(self.rt.alloc())?;
+        transcript::run(self.list, &mut again);
+        match self
+            .records
+            .iter()
+            .zip(&again)
+            .position(|(one, other)| one != other)
+        {
+            Some(place) => println!(self.rt; "transcript differs at {place}"),
+            None => println!(self.rt; "transcript same"),
+        }
     }
 
     // Prints a call with its answer, and writes both down.
-    fn note(&mut self, rt: &HostRuntime, call: Call, answer: Answer) -> io::Result<()> {
-        let asked = Asked(call);
-        let told = Told(answer);
-        println!(rt; "{asked} {told}")?;
-        self.records.push(Record { call, answer })?;
+    fn note(&mut self, call: Call, answer: Result<Answer, Refusal>) -> io::Result<()> {
+        let record = Record {
+            call,
+            answer: Some(answer),
+        };
+        println!(self.rt; "{}", Line(record))?;
+        self.records.push(record)?;
         Ok(())
     }
+}
+
+// So many numbers at the front of the buffer, and zeros after them.
+fn front(buffer: &[u32], count: usize) -> [u32; 8] {
+    let mut front = [0; 8];
+    for (kept, number) in front.iter_mut().zip(buffer.iter().take(count)) {
+        *kept = *number;
+    }
+    front
 }

@@ -1,12 +1,12 @@
-// How quads, patterns, calls and answers are written.
-use quads::{Pattern, Place, Quad};
-use session::{Ask, Call};
-use std::{fmt, io};
-use transcript::Answer;
+// How quads, patterns, tests, calls and answers are written.
+use quads::{ListRefusal, Mark, Pattern, Place, Quad};
+use session::{Ask, Call, Refusal};
+use std::fmt;
+use transcript::{Answer, Record};
 
 // A quad or a mark, as 1.2.3.4.
 #[derive(Drop)]
-pub struct Dots(pub Quad);
+pub(crate) struct Dots(pub(crate) Quad);
 
 impl fmt::Display for Dots {
     fn fmt<W: fmt::Write>(&self, f: &mut fmt::Formatter<W>) -> fmt::Result {
@@ -17,7 +17,7 @@ impl fmt::Display for Dots {
 
 // One place of a pattern: a number, or ? where it is open.
 #[derive(Drop)]
-struct Spot(Place);
+pub(crate) struct Spot(pub(crate) Place);
 
 impl fmt::Display for Spot {
     fn fmt<W: fmt::Write>(&self, f: &mut fmt::Formatter<W>) -> fmt::Result {
@@ -30,69 +30,140 @@ impl fmt::Display for Spot {
 
 // A pattern, as 1.?.?.4.
 #[derive(Drop)]
-pub struct Shape(pub Pattern);
+pub(crate) struct Shape(pub(crate) Pattern);
 
 impl fmt::Display for Shape {
     fn fmt<W: fmt::Write>(&self, f: &mut fmt::Formatter<W>) -> fmt::Result {
-        let s = Spot(self.0.s);
-        let p = Spot(self.0.p);
-        let o = Spot(self.0.o);
-        let g = Spot(self.0.g);
-        write!(f, "{s}.{p}.{o}.{g}")
+        let Pattern { s, p, o, g } = self.0;
+        write!(f, "{}.{}.{}.{}", Spot(s), Spot(p), Spot(o), Spot(g))
+    }
+}
+
+// Several things, each after a space.
+#[derive(Drop)]
+pub(crate) struct Row<'a, T>(pub(crate) &'a [T]);
+
+impl<T: fmt::Display> fmt::Display for Row<'_, T> {
+    fn fmt<W: fmt::Write>(&self, f: &mut fmt::Formatter<W>) -> fmt::Result {
+        for item in self.0 {
+            write!(f, " {item}")?;
+        }
+        Ok(())
+    }
+}
+
+// Several quads, each after a space.
+#[derive(Drop)]
+pub(crate) struct Quads<'a>(pub(crate) &'a [Quad]);
+
+impl fmt::Display for Quads<'_> {
+    fn fmt<W: fmt::Write>(&self, f: &mut fmt::Formatter<W>) -> fmt::Result {
+        for quad in self.0 {
+            write!(f, " {}", Dots(*quad))?;
+        }
+        Ok(())
+    }
+}
+
+// Whether something holds: y or n.
+#[derive(Drop)]
+pub(crate) struct Test(pub(crate) bool);
+
+impl fmt::Display for Test {
+    fn fmt<W: fmt::Write>(&self, f: &mut fmt::Formatter<W>) -> fmt::Result {
+        write!(f, "{}", if self.0 { "y" } else { "n" })
+    }
+}
+
+// A key, and the place in an ordered list that is found by it.
+#[derive(Drop)]
+pub(crate) struct At<K>(pub(crate) K, pub(crate) usize);
+
+impl<K: fmt::Display> fmt::Display for At<K> {
+    fn fmt<W: fmt::Write>(&self, f: &mut fmt::Formatter<W>) -> fmt::Result {
+        write!(f, "{}@{}", self.0, self.1)
+    }
+}
+
+// A quad that was found, or that there is none.
+#[derive(Drop)]
+pub(crate) struct Found(pub(crate) Option<Quad>);
+
+impl fmt::Display for Found {
+    fn fmt<W: fmt::Write>(&self, f: &mut fmt::Formatter<W>) -> fmt::Result {
+        match self.0 {
+            Some(quad) => write!(f, "{}", Dots(quad)),
+            None => write!(f, "none"),
+        }
+    }
+}
+
+// A mark, and what is found from it on.
+#[derive(Drop)]
+pub(crate) struct Search(pub(crate) Mark, pub(crate) Option<Quad>);
+
+impl fmt::Display for Search {
+    fn fmt<W: fmt::Write>(&self, f: &mut fmt::Formatter<W>) -> fmt::Result {
+        write!(f, "{}> {}", Dots(self.0), Found(self.1))
+    }
+}
+
+// Whether quads are a plain list: ok, or the refusal's number and the place of the quad at fault.
+#[derive(Drop)]
+pub(crate) struct Verdict(pub(crate) Result<(), ListRefusal>);
+
+impl fmt::Display for Verdict {
+    fn fmt<W: fmt::Write>(&self, f: &mut fmt::Formatter<W>) -> fmt::Result {
+        match self.0 {
+            Ok(()) => write!(f, "ok"),
+            Err(refusal) => write!(f, "{} at {}", refusal.number(), refusal.place()),
+        }
+    }
+}
+
+// A call with what came of it.
+#[derive(Drop)]
+pub(crate) struct Line(pub(crate) Record);
+
+impl fmt::Display for Line {
+    fn fmt<W: fmt::Write>(&self, f: &mut fmt::Formatter<W>) -> fmt::Result {
+        write!(f, "{} {}", Asked(self.0.call), Told(self.0.answer))
     }
 }
 
 // A call: o, n, s, l or c with the cursor's number, t, or r with the room.
 #[derive(Drop)]
-pub struct Asked(pub Call);
+struct Asked(Call);
 
 impl fmt::Display for Asked {
     fn fmt<W: fmt::Write>(&self, f: &mut fmt::Formatter<W>) -> fmt::Result {
         match self.0 {
-            Call::On(cursor, ask) => write_ask(f, cursor, ask),
+            Call::On(cursor, Ask::Open(pattern)) => write!(f, "o{cursor} {}", Shape(pattern)),
+            Call::On(cursor, Ask::Next) => write!(f, "n{cursor}"),
+            Call::On(cursor, Ask::Seek(mark)) => write!(f, "s{cursor} {}", Dots(mark)),
+            Call::On(cursor, Ask::Left) => write!(f, "l{cursor}"),
+            Call::On(cursor, Ask::Close) => write!(f, "c{cursor}"),
             Call::Tally => write!(f, "t"),
             Call::Roll(room) => write!(f, "r {room}"),
         }
     }
 }
 
-fn write_ask<W: fmt::Write>(f: &mut fmt::Formatter<W>, cursor: u32, ask: Ask) -> fmt::Result {
-    match ask {
-        Ask::Open(pattern) => {
-            let shape = Shape(pattern);
-            write!(f, "o{cursor} {shape}")
-        }
-        Ask::Next => write!(f, "n{cursor}"),
-        Ask::Seek(mark) => {
-            let dots = Dots(mark);
-            write!(f, "s{cursor} {dots}")
-        }
-        Ask::Left => write!(f, "l{cursor}"),
-        Ask::Close => write!(f, "c{cursor}"),
-    }
-}
-
-// An answer: ok, = with a quad, end, # with a count, ! with a refusal's number, or r with how many cursors are open, their
-// numbers, and after | the whole buffer.
+// What came of a call: ok, = with a quad, end, # with a count, ! with a refusal's number, or r with how many cursors are
+// open, their numbers, and after | the whole buffer.
 #[derive(Drop)]
-pub struct Told(pub Answer);
+struct Told(Option<Result<Answer, Refusal>>);
 
 impl fmt::Display for Told {
     fn fmt<W: fmt::Write>(&self, f: &mut fmt::Formatter<W>) -> fmt::Result {
         match self.0 {
-            Answer::Pending => write!(f, "pending"),
-            Answer::Opened => write!(f, "ok"),
-            Answer::Gave(quad) => {
-                let dots = Dots(quad);
-                write!(f, "= {dots}")
-            }
-            Answer::End => write!(f, "end"),
-            Answer::Counted(count) => write!(f, "#{count}"),
-            Answer::Rolled(count, buffer) => write_roll(f, count, buffer),
-            Answer::Refused(refusal) => {
-                let number = refusal.number();
-                write!(f, "!{number}")
-            }
+            None => write!(f, "pending"),
+            Some(Ok(Answer::Opened)) => write!(f, "ok"),
+            Some(Ok(Answer::Next(Some(quad)))) => write!(f, "= {}", Dots(quad)),
+            Some(Ok(Answer::Next(None))) => write!(f, "end"),
+            Some(Ok(Answer::Counted(count))) => write!(f, "#{count}"),
+            Some(Ok(Answer::Rolled(count, buffer))) => write_roll(f, count, buffer),
+            Some(Err(refusal)) => write!(f, "!{}", refusal.number()),
         }
     }
 }
@@ -106,43 +177,5 @@ fn write_roll<W: fmt::Write>(
     for number in buffer.iter().take(count) {
         write!(f, " {number}")?;
     }
-    write!(f, " |")?;
-    for number in buffer {
-        write!(f, " {number}")?;
-    }
-    Ok(())
-}
-
-pub fn print_quads(rt: &HostRuntime, quads: &[Quad]) -> io::Result<()> {
-    for quad in quads {
-        let dots = Dots(*quad);
-        print!(rt; " {dots}")?;
-    }
-    Ok(())
-}
-
-pub fn print_numbers(rt: &HostRuntime, numbers: &[u32]) -> io::Result<()> {
-    for number in numbers {
-        print!(rt; " {number}")?;
-    }
-    Ok(())
-}
-
-pub fn print_test(rt: &HostRuntime, test: bool) -> io::Result<()> {
-    if test {
-        print!(rt; " y")
-    } else {
-        print!(rt; " n")
-    }
-}
-
-// A quad that was found, or that there is none.
-pub fn print_found(rt: &HostRuntime, found: Option<Quad>) -> io::Result<()> {
-    match found {
-        Some(quad) => {
-            let dots = Dots(quad);
-            print!(rt; " {dots}")
-        }
-        None => print!(rt; " none"),
-    }
+    write!(f, " |{}", Row(&buffer))
 }
