@@ -9,6 +9,7 @@ use Rattle.bits.specs.Words.{bit_at, bits_in, words_for, packed_bits, spare_zero
 use Rattle.bits.proofs.Packed.{bit_packed, bits_packed}
 use Rattle.bits.proofs.Ranges.{each_from_range}
 use Rattle.bits.proofs.SpareWords.{packed_spare}
+use Rattle.bits.proofs.StoredLaws.{takes_row, finds_row, reads_row}
 use Rattle.bitmaps.specs.BitRows.{HasBitRow}
 use Rattle.bitmaps.specs.Counts.{ones_of, rank_of}
 use Rattle.bitmaps.specs.PlainRoom.{packed_long, directory_long, room_told}
@@ -105,14 +106,11 @@ module _ (bits : List Bool) (few : HasBitRow bits) (rest : List ℕ) where
   found-bits : plain_bits_in (plain_words bits ++ rest) ≡ bits
   found-bits = ap (λ xs. bits_in xs (length bits)) bits_there ∙ bits_packed bits
 
-module _ (ws : List ℕ) (r : Result ℕ BitsFault) (read : r ≡ plain_read ws) where
-  pub takes_row : ((i : ℕ) → get_or ws i 0 < 2 ^ 64) → TakesRow plain_words plain_bits_in ws r
-  takes_row fits n e =
-      let f = row_facts ws n (sym e ∙ read) in
-      ap (λ k. take k ws) f.1 ∙ row_words ws fits f.0 ∙ ap (λ x. plain_words (items_read plain_bits_in x ws)) (sym e)
+pub takes : (ws : List ℕ) → ((i : ℕ) → get_or ws i 0 < 2 ^ 64) → (r : Result ℕ BitsFault) → r ≡ plain_read ws → TakesRow plain_words plain_bits_in ws r
+takes ws fits = takes_row plain_words plain_bits_in plain_read ws (λ n e. let f = row_facts ws n e in ap (λ k. take k ws) f.1 ∙ row_words ws fits f.0)
 
-  pub finds_row : FindsRow HasBitRow plain_words (λ bits. plain_room (length bits)) ws r
-  finds_row bits rest few e = read ∙ ap plain_read e ∙ found_row bits few rest
+pub finds : (ws : List ℕ) (r : Result ℕ BitsFault) → r ≡ plain_read ws → FindsRow HasBitRow plain_words (λ bits. plain_room (length bits)) ws r
+finds = finds_row plain_words plain_bits_in plain_read HasBitRow (λ bits. plain_room (length bits)) (λ bits rest few. sym (found_row bits few rest))
 
-  pub reads_row : ReadsRow HasBitRow plain_words ws (items_read plain_bits_in r ws)
-  reads_row bits rest few e = ap (λ x. items_read plain_bits_in x ws) (finds_row bits rest few e) ∙ ap plain_bits_in e ∙ found-bits bits few rest
+pub reads : (ws : List ℕ) (read : List Bool) → read ≡ items_read plain_bits_in (plain_read ws) ws → ReadsRow HasBitRow plain_words ws read
+reads = reads_row plain_words plain_bits_in plain_read HasBitRow (λ bits. plain_room (length bits)) (λ bits rest few. sym (found_row bits few rest)) (λ bits rest few. found-bits bits few rest)

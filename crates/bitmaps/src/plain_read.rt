@@ -1,9 +1,9 @@
 // Reading a row of plain bits from words that may go on after it.
 ghost use Rattle.bitmaps.specs.PlainRoom.{room_told};
-ghost use Rattle.bitmaps.specs.BitRows.{HasBitRow, room_taken};
+ghost use Rattle.bitmaps.specs.BitRows.{HasBitRow};
 ghost use Rattle.bitmaps.specs.PlainMeaning.{plain_bits};
 ghost use Rattle.bitmaps.specs.PlainRows.{plain_words, plain_room, plain_bits_in, plain_read};
-ghost use Rattle.bits.specs.StoredRows.{TakesRow, FindsRow};
+ghost use Rattle.bits.specs.StoredRows.{room_taken};
 ghost use Rattle.bits.specs.Words.{spare_zero};
 ghost use Rattle.std.specs.Prelude.{◌≡◌, ◌*◌, ◌≤◌, IfOk, length};
 
@@ -65,12 +65,7 @@ impl<'a> StoredRow<'a> for PlainBits<'a> {
 
     ghost reading = { plain_read };
 
-    // The clauses are those of the trait: this method does not get them by itself.
-    fn check(words: &[u64]) -> Result<usize, BitsFault>
-        ensures answer { result ≡ plain_read words.now }
-        ensures row { TakesRow plain_words plain_bits_in words.now result }
-        ensures found { FindsRow HasBitRow plain_words (λ bits. plain_room (length bits)) words.now result }
-    {
+    fn check(words: &'a [u64]) -> Result<usize, BitsFault> {
         Ok(read(words)?.1)
     }
 

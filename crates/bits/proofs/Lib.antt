@@ -4,4 +4,5 @@ pub mod Ranges
 pub mod Spare
 pub mod SpareTold
 pub mod SpareWords
+pub mod StoredLaws
 pub mod Words

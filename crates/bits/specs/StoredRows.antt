@@ -2,6 +2,11 @@
 -- the items that such words tell. Assumes nothing.
 use Rattle.std.specs.Prelude.{◌≡◌, ℕ, List, [], ◌++◌, take, Ok, Err, Result}
 
+-- how many words the row takes that was read together with this number, or the fault
+abbrev pub room_taken : {R F : Type 0} → Result (R × ℕ) F → Result ℕ F
+room_taken (Ok row) = Ok row.1
+room_taken (Err fault) = Err fault
+
 -- the items of the row at the front of the words, or none if there is no row
 abbrev pub items_read : {A F : Type 0} → (List ℕ → List A) → Result ℕ F → List ℕ → List A
 items_read items_in (Ok n) ws = items_in ws

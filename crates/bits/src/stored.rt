@@ -26,7 +26,7 @@ pub trait StoredRow<'a>: Row {
     ghost reading: { List ℕ → Result ℕ Self.Fault };
 
     // How many words the row at the front of these takes, or the first fault.
-    fn check(words: &[u64]) -> Result<usize, Self::Fault>
+    fn check(words: &'a [u64]) -> Result<usize, Self::Fault>
         ensures answer { result ≡ reading words.now }
         ensures row { TakesRow words_of items_in words.now result }
         ensures found { FindsRow HasRow words_of room_of words.now result };

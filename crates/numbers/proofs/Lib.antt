@@ -3,5 +3,4 @@ pub mod NumberBits
 pub mod PackedNumberLaws
 pub mod PackedPlaces
 pub mod PlainNumberLaws
-pub mod StoredLaws
 pub mod Widths

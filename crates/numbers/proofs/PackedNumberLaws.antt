@@ -13,7 +13,7 @@ use Rattle.numbers.specs.NumbersIn.{number_in, numbers_in}
 use Rattle.numbers.specs.PackedNumberRows.{packed_read, count_of, width_in, content_words, numbers_packed}
 use Rattle.numbers.specs.declared.fault.NumbersFault.{NumbersFault}
 use Rattle.numbers.proofs.NumberBits.{numbers_below, bits_of_numbers, bits_long, numbers_there}
-use Rattle.numbers.proofs.StoredLaws.{takes_row, finds_row, reads_row}
+use Rattle.bits.proofs.StoredLaws.{takes_row, finds_row, reads_row}
 use Rattle.numbers.proofs.Widths.{width_holds, width_least}
 
 -- what is so of words of which a row was read

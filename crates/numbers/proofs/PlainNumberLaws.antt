@@ -5,7 +5,7 @@ use Rattle.std.proofs.lemmas.List.{length-append, length-take-le, take_at}
 use Rattle.std.proofs.lemmas.Bool.{lt-ltb}
 use Rattle.ordered.proofs.Lists.{each_from_places}
 use Rattle.bits.specs.StoredRows.{FindsRow, TakesRow, ReadsRow, items_read}
-use Rattle.numbers.proofs.StoredLaws.{takes_row, finds_row, reads_row}
+use Rattle.bits.proofs.StoredLaws.{takes_row, finds_row, reads_row}
 use Rattle.numbers.specs.NumberWords.{each_below, HasNumbers, plain_number_words, plain_numbers_room}
 use Rattle.numbers.specs.declared.fault.NumbersFault.{NumbersFault}
 use Rattle.numbers.specs.PlainNumberRows.{plain_numbers_read, numbers_after}

@@ -1,12 +1,11 @@
 // Reading a row of packed numbers from words that may go on after it.
-ghost use Rattle.bits.specs.StoredRows.{FindsRow, TakesRow};
+ghost use Rattle.bits.specs.StoredRows.{room_taken};
 ghost use Rattle.numbers.specs.NumberWords.{HasNumbers, packed_words, packed_numbers_room};
 ghost use Rattle.numbers.specs.NumbersIn.{largest_of};
 ghost use Rattle.numbers.specs.PackedMeaning.{packed_numbers};
 ghost use Rattle.numbers.specs.PackedNumberRows.{packed_read, numbers_packed};
 ghost use Rattle.numbers.specs.Rooms.{packed_takes};
 ghost use Rattle.std.specs.Prelude.{◌≡◌, IfOk};
-ghost use Rattle.std.specs.Result.{result_map_both};
 
 use crate::fault::NumbersFault;
 use crate::packed::PackedNumbers;
@@ -26,7 +25,7 @@ impl<'a> PackedNumbers<'a> {
     // The row at the front of the words, and how many of them it takes, or the first fault.
     #[tactic(auto, unfolding(crate::specs::PackedNumberRows::packed_read))]
     fn read(words: &'a [u64]) -> Result<(PackedNumbers<'a>, usize), NumbersFault>
-        ensures room { result_map_both (λ read. read.1) (λ fault. fault) result ≡ packed_read words.now }
+        ensures room { room_taken result ≡ packed_read words.now }
         ensures numbers { IfOk result (λ read. packed_numbers read.0 ≡ numbers_packed words.now) }
     {
         let [count, width, rest @ ..] = words else {
@@ -70,12 +69,7 @@ impl<'a> StoredRow<'a> for PackedNumbers<'a> {
 
     ghost reading = { packed_read };
 
-    // The trait's clauses again: the check does not yet give them to a function of a lent slice and no self.
-    fn check(words: &[u64]) -> Result<usize, NumbersFault>
-        ensures answer { result ≡ packed_read words.now }
-        ensures row { TakesRow packed_words numbers_packed words.now result }
-        ensures found { FindsRow HasNumbers packed_words packed_numbers_room words.now result }
-    {
+    fn check(words: &'a [u64]) -> Result<usize, NumbersFault> {
         let (_, end) = PackedNumbers::read(words)?;
         Ok(end)
     }

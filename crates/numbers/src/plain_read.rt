@@ -1,11 +1,10 @@
 // Reading a row of plain numbers from words that may go on after it.
-ghost use Rattle.bits.specs.StoredRows.{FindsRow, TakesRow};
+ghost use Rattle.bits.specs.StoredRows.{room_taken};
 ghost use Rattle.numbers.specs.NumberWords.{HasNumbers, plain_number_words, plain_numbers_room};
 ghost use Rattle.numbers.specs.PlainMeaning.{plain_numbers};
 ghost use Rattle.numbers.specs.PlainNumberRows.{plain_numbers_read, numbers_after};
 ghost use Rattle.numbers.specs.Rooms.{plain_takes};
 ghost use Rattle.std.specs.Prelude.{◌≡◌, ◌↔◌, ◌<◌, ◌^◌, All, IfOk, IsTrue};
-ghost use Rattle.std.specs.Result.{result_map_both};
 
 use crate::fault::NumbersFault;
 use crate::plain::PlainNumbers;
@@ -22,7 +21,7 @@ impl<'a> PlainNumbers<'a> {
     // The row at the front of the words, and how many of them it takes, or the first fault.
     #[tactic(auto, unfolding(crate::specs::PlainNumberRows::plain_numbers_read))]
     fn read(words: &'a [u64]) -> Result<(PlainNumbers<'a>, usize), NumbersFault>
-        ensures room { result_map_both (λ read. read.1) (λ fault. fault) result ≡ plain_numbers_read words.now }
+        ensures room { room_taken result ≡ plain_numbers_read words.now }
         ensures numbers { IfOk result (λ read. plain_numbers read.0 ≡ numbers_after words.now) }
     {
         let [count, rest @ ..] = words else {
@@ -52,12 +51,7 @@ impl<'a> StoredRow<'a> for PlainNumbers<'a> {
 
     ghost reading = { plain_numbers_read };
 
-    // The trait's clauses again: the check does not yet give them to a function of a lent slice and no self.
-    fn check(words: &[u64]) -> Result<usize, NumbersFault>
-        ensures answer { result ≡ plain_numbers_read words.now }
-        ensures row { TakesRow plain_number_words numbers_after words.now result }
-        ensures found { FindsRow HasNumbers plain_number_words plain_numbers_room words.now result }
-    {
+    fn check(words: &'a [u64]) -> Result<usize, NumbersFault> {
         let (_, end) = PlainNumbers::read(words)?;
         Ok(end)
     }

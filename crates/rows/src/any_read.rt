@@ -22,7 +22,7 @@ impl<'a, P: StoredRow<'a>, C: StoredRow<'a, Item = P::Item>> AnyRow<P, C> {
 
 impl<'a, P: StoredRow<'a>, C: StoredRow<'a, Item = P::Item, Fault = P::Fault>> AnyRow<P, C> {
     // How many words the row of this kind at the front of these takes, or the first fault.
-    pub fn check(kind: RowKind, words: &[u64]) -> Result<usize, P::Fault>
+    pub fn check(kind: RowKind, words: &'a [u64]) -> Result<usize, P::Fault>
         ensures answer { result ≡ of_kind kind P.reading C.reading words.now }
         ensures row { TakesRow (of_kind kind P.words_of C.words_of) (of_kind kind P.items_in C.items_in) words.now result }
         ensures found { FindsRow (of_kind kind P.HasRow C.HasRow) (of_kind kind P.words_of C.words_of) (of_kind kind P.room_of C.room_of) words.now result }

@@ -4,6 +4,7 @@ use Rattle.std.specs.List.{range_with_len}
 use Rattle.std.proofs.lemmas.List.FromFn.{length-map-range_with_len, length-range_with_len}
 use Rattle.std.proofs.lemmas.List.{length-map, length-append, length-take, length-drop, take_at}
 use Rattle.std.proofs.lemmas.List.Sums.{length-filter, count_by-le-length}
+use Rattle.bits.proofs.StoredLaws.{takes_row, finds_row, reads_row}
 use Rattle.bits.specs.StoredRows.{items_read, TakesRow, FindsRow, ReadsRow}
 use Rattle.bitmaps.specs.BitRows.{HasBitRow}
 use Rattle.bitmaps.specs.declared.fault.BitsFault.{BitsFault}
@@ -12,7 +13,7 @@ use Rattle.runs.specs.RunRows.{run_read, run_bits_in, runs_in}
 use Rattle.runs.specs.RunWords.{begins_run, run_places, run_word, run_words, run_room}
 use Rattle.runs.specs.Runs.{in_runs, runs_fit}
 use Rattle.runs.proofs.RunPlaces.{covers_past}
-use Rattle.runs.proofs.RunReading.{row_facts, row_read}
+use Rattle.runs.proofs.RunReading.{IsRow, row_facts, row_read}
 use Rattle.runs.proofs.RunsAgain.{same_runs}
 use Rattle.runs.proofs.RunsOfBits.{words, words_cover, words_fit, bits_again}
 use Rattle.bitmaps.proofs.Tested.{one_at_is}
@@ -62,20 +63,19 @@ module _ (bits : List Bool) (few : length bits ≤ 67108864) (rest : List ℕ) w
   found-bits : run_bits_in (run_words bits ++ rest) ≡ bits
   found-bits = ap (λ ws. covered_bits ws (length bits)) runs_there ∙ bits_again bits few
 
-module _ (ws : List ℕ) (r : Result ℕ BitsFault) (read : r ≡ run_read ws) where
-  pub takes_row : TakesRow run_words run_bits_in ws r
-  takes_row n e =
-      let f = row_facts ws n (sym e ∙ read) in
-      let is = f.0 in
-      let long : length (runs_in ws) ≡ get_or ws 1 0 = omega (arith, length-take (get_or ws 1 0) (drop 2 ws), length-drop 2 ws, is.3) in
-      ap (λ m. take m ws) f.1
-      ∙ cut (get_or ws 1 0) ws is.0
-      ∙ ap (λ m. get_or ws 0 0 ∷ (m ∷ runs_in ws)) (sym long)
-      ∙ sym (row_again (get_or ws 0 0) (runs_in ws) is.1 is.4)
-      ∙ ap (λ x. run_words (items_read run_bits_in x ws)) (sym e)
+-- a row that is read is the words of its bits
+row_words : (ws : List ℕ) → IsRow ws → take (2 + get_or ws 1 0) ws ≡ run_words (run_bits_in ws)
+row_words ws is =
+    let long : length (runs_in ws) ≡ get_or ws 1 0 = omega (arith, length-take (get_or ws 1 0) (drop 2 ws), length-drop 2 ws, is.3) in
+    cut (get_or ws 1 0) ws is.0
+    ∙ ap (λ m. get_or ws 0 0 ∷ (m ∷ runs_in ws)) (sym long)
+    ∙ sym (row_again (get_or ws 0 0) (runs_in ws) is.1 is.4)
 
-  pub finds_row : FindsRow HasBitRow run_words run_room ws r
-  finds_row bits rest few e = read ∙ ap run_read e ∙ found_row bits few rest
+pub takes : (ws : List ℕ) (r : Result ℕ BitsFault) → r ≡ run_read ws → TakesRow run_words run_bits_in ws r
+takes ws = takes_row run_words run_bits_in run_read ws (λ n e. let f = row_facts ws n e in ap (λ m. take m ws) f.1 ∙ row_words ws f.0)
 
-  pub reads_row : ReadsRow HasBitRow run_words ws (items_read run_bits_in r ws)
-  reads_row bits rest few e = ap (λ x. items_read run_bits_in x ws) (finds_row bits rest few e) ∙ ap run_bits_in e ∙ found-bits bits few rest
+pub finds : (ws : List ℕ) (r : Result ℕ BitsFault) → r ≡ run_read ws → FindsRow HasBitRow run_words run_room ws r
+finds = finds_row run_words run_bits_in run_read HasBitRow run_room (λ bits rest few. sym (found_row bits few rest))
+
+pub reads : (ws : List ℕ) (read : List Bool) → read ≡ items_read run_bits_in (run_read ws) ws → ReadsRow HasBitRow run_words ws read
+reads = reads_row run_words run_bits_in run_read HasBitRow run_room (λ bits rest few. sym (found_row bits few rest)) (λ bits rest few. found-bits bits few rest)

