@@ -1,4 +1,6 @@
 // The trait of rows that lie in words: each kind says which words a list of items takes, and reads its rows from words.
+// Every kind writes `check` and `new` itself, though they read alike. As methods of the trait they would need the clauses `row`,
+// `found` and `list` as laws of the trait, and the proofs of a law have to stand in specs/, which is to be read by people.
 ghost use Rattle.bits.specs.StoredRows.{TakesRow, FindsRow, ReadsRow, items_read};
 ghost use Rattle.std.specs.Prelude.{◌≡◌, ℕ, List, Result, length};
 
