@@ -118,7 +118,7 @@ impl Draws {
         }
     }
 
-    // All quads of three numbers that are chosen here.
+    // Chooses the numbers of a list, and answers all quads of them, in ascending order.
     fn all_quads(&mut self) -> [Quad; 81] {
         self.values = VALUES[self.below(4) as usize];
         let values = self.values;

@@ -45,7 +45,7 @@ fn step(
         16 => runner.tally(),
         _ => {
             let size = draws.below(6) as usize;
-            runner.roll(&mut [99; 10][..size])
+            runner.roll(&mut [99; 5][..size])
         }
     }
 }

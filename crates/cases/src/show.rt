@@ -52,7 +52,7 @@ impl<T: fmt::Display> fmt::Display for Row<'_, T> {
     }
 }
 
-// Several quads, each after a space.
+// Several quads, each after a space. A quad has no Display of its own, so this is no `Row`.
 #[derive(Drop)]
 pub(crate) struct Quads<'a>(pub(crate) &'a [Quad]);
 

@@ -9,7 +9,7 @@ use std::io;
 use transcript::{Record, run, run_twice};
 
 // What is asked of a cursor, to go on from the first statement of a work.
-const fn skip_to(work: u32) -> Ask {
+fn skip_to(work: u32) -> Ask {
     Ask::Seek(Quad::new(work, 0, 0, 0))
 }
 
