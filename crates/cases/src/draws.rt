@@ -45,13 +45,12 @@ impl Draws {
         }
     }
 
-    // A number below the bound, the next of the row.
+    // A number below the bound, the next of the row; 0 where the bound is 0.
     pub(crate) fn below(&mut self, bound: u32) -> u32
-        requires { 0 < bound }
-        ensures { result < bound }
+        ensures { 0 < bound → result < bound }
     {
         self.state = self.state.wrapping_mul(1_103_515_245).wrapping_add(12_345) & 0x7fff_ffff;
-        (self.state >> 8) % bound
+        (self.state >> 8).checked_rem(bound).unwrap_or(0)
     }
 
     // One of these.
