@@ -1,4 +1,5 @@
-// Plain bits: the bits in words, and a directory of the ones before each 512 of them.
+// Plain bits: the bits in words, and a directory of the ones before each 512 of them. How many bits there are the words do not
+// tell.
 ghost use Rattle.bitmaps.specs.Counts.{ones_of};
 ghost use Rattle.bits.specs.Words.{bit_at, bits_in};
 ghost use Rattle.std.specs.Prelude.{◌≡◌, ℕ, ◌+◌, ◌*◌, ◌/◌, ◌<◌, ◌≤◌, false, length, slice_index};

@@ -1,4 +1,4 @@
-// Bare bits: words, and how many of their bits count.
+// Bare bits: words, and how many of their bits count, which the slice does not tell.
 ghost use Rattle.std.specs.Prelude.{◌*◌, ◌≤◌, length};
 
 #[derive(Drop)]

@@ -1,4 +1,5 @@
-// Drawing the cases: a row of numbers that looks random and is the same in each run, and what is made of it.
+// Drawing the cases: a row of numbers that looks random and is the same in each run, and what is made of it. A match on a drawn
+// number is a table of chances; tools/cases.py has the same numbers in the same order, and a list of closures would say no more.
 ghost use Rattle.std.specs.Prelude.{◌<◌};
 
 use crate::parts::Part;
@@ -45,7 +46,7 @@ impl Draws {
         }
     }
 
-    // A number below the bound, the next of the row; 0 where the bound is 0.
+    // A number below the bound, the next of the row; 0 where the bound is 0, and no Option, since every draw needs a number.
     pub(crate) fn below(&mut self, bound: u32) -> u32
         ensures { 0 < bound → result < bound }
     {

@@ -1,4 +1,4 @@
-// Packed numbers: so many bits for each, one after another across words.
+// Packed numbers: so many bits for each, one after another across words. How many numbers there are the words do not tell.
 ghost use Rattle.std.specs.Prelude.{◌*◌, ◌≤◌, length};
 
 #[derive(Drop)]

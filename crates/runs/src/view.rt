@@ -1,4 +1,4 @@
-// Bits told by their runs of ones: the words of the runs, and how many bits there are.
+// Bits told by their runs of ones: the words of the runs, and how many bits there are, which the runs do not tell.
 ghost use Rattle.runs.specs.Runs.{runs_fit};
 ghost use Rattle.std.specs.Prelude.{◌≡◌, ◌≤◌, true};
 

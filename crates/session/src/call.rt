@@ -40,7 +40,7 @@ pub enum Reply {
 }
 
 impl Reply {
-    // The count in the reply, or 0.
+    // The count in the reply, or 0. No Option: only what replies with a count is asked for it.
     pub(crate) fn count(self) -> u32
         ensures { result ≡ count_of self }
     {

@@ -11,7 +11,8 @@ pub enum State {
     Ended,
 }
 
-// One of the eight cursors of a session.
+// One of the eight cursors of a session. Its pattern and its count stand beside the state, and not in it: both open states
+// have them, and what a cursor answers goes by the state alone.
 #[derive(Clone, Copy)]
 pub struct Cursor {
     pub(crate) state: State,
@@ -21,7 +22,7 @@ pub struct Cursor {
     pub(crate) given: u32,
 }
 
-// The cursors, and what they gave in all.
+// The cursors, and what they gave in all. By rule of the project a session has a fixed number of cursors, in itself.
 #[derive(Clone, Copy)]
 pub struct Table {
     pub(crate) cursors: [Cursor; 8],
