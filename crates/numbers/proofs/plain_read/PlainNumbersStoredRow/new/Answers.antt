@@ -1,10 +1,6 @@
 use Rattle.std.proofs.Common.{[], rules}
-use Rattle.numbers.specs.PlainMeaning.{plain_numbers}
 use Rattle.numbers.proofs.PlainNumberLaws.{reads}
 use Rattle.numbers.proofs.plain_read.PlainNumbersStoredRow.new.Goals as goal
-
-pub returns-clause-list : goal.returns-clause-list
-returns-clause-list c = reads c.args.words.now (plain_numbers c.in-Ok.row) (search rules)
 
 pub returns-in_default-clause-list : goal.returns-in_default-clause-list
 returns-in_default-clause-list c = reads c.args.words.now [] (search rules)
