@@ -1,6 +1,6 @@
 // Why words are no row of bits.
 
-// An enum of its own beside the faults of numbers: each family of rows has its own, and a larger whole takes it in by `From`.
+// An enum of its own beside the faults of numbers: each family of rows has its own, and a larger whole would take it in by `From`.
 #[derive(Clone, Copy, PartialEq, Eq, Debug)]
 pub enum BitsFault {
     // The words end before the row does.

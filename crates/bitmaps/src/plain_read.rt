@@ -12,36 +12,38 @@ use crate::plain::PlainBits;
 use crate::plain_check::tells_ones;
 use bits::{BareBits, MAX_LEN, StoredRow};
 
-// The row at the front of the words and how many of them it takes, or the first fault.
-#[tactic(auto, using(std::proofs::lemmas::Bool::Decides::nat_tests, crate::proofs::PlainReading::bits_cut, crate::proofs::PlainReading::directory_cut), unfolding(crate::specs::PlainRows::plain_read))]
-fn read(words: &[u64]) -> Result<(PlainBits<'_>, usize), BitsFault>
-    ensures room { room_taken result ≡ plain_read words.now }
-    ensures bits { IfOk result (λ row. plain_bits row.0 ≡ plain_bits_in words.now) }
-{
-    let first = *words.first().ok_or(BitsFault::Short)?;
-    if first > MAX_LEN as u64 {
-        return Err(BitsFault::TooManyBits);
+impl<'a> PlainBits<'a> {
+    // The row at the front of the words and how many of them it takes, or the first fault.
+    #[tactic(auto, using(std::proofs::lemmas::Bool::Decides::nat_tests, crate::proofs::PlainReading::bits_cut, crate::proofs::PlainReading::directory_cut), unfolding(crate::specs::PlainRows::plain_read))]
+    fn read(words: &'a [u64]) -> Result<(PlainBits<'a>, usize), BitsFault>
+        ensures room { room_taken result ≡ plain_read words.now }
+        ensures bits { IfOk result (λ row. plain_bits row.0 ≡ plain_bits_in words.now) }
+    {
+        let first = *words.first().ok_or(BitsFault::Short)?;
+        if first > MAX_LEN as u64 {
+            return Err(BitsFault::TooManyBits);
+        }
+        let len = first as usize;
+        let bits_end = 1 + len.div_ceil(64);
+        let blocks = len.div_ceil(512);
+        if words.len() < bits_end + blocks {
+            return Err(BitsFault::Short);
+        }
+        let bits = &words[1..bits_end];
+        let directory = &words[bits_end..bits_end + blocks];
+        if !is_spare_zero(bits, len) {
+            return Err(BitsFault::SpareBitSet);
+        }
+        if !tells_ones(bits, directory) {
+            return Err(BitsFault::WrongContent);
+        }
+        let row = PlainBits {
+            words: bits,
+            directory,
+            len,
+        };
+        Ok((row, bits_end + blocks))
     }
-    let len = first as usize;
-    let bits_end = 1 + len.div_ceil(64);
-    let blocks = len.div_ceil(512);
-    if words.len() < bits_end + blocks {
-        return Err(BitsFault::Short);
-    }
-    let bits = &words[1..bits_end];
-    let directory = &words[bits_end..bits_end + blocks];
-    if !is_spare_zero(bits, len) {
-        return Err(BitsFault::SpareBitSet);
-    }
-    if !tells_ones(bits, directory) {
-        return Err(BitsFault::WrongContent);
-    }
-    let row = PlainBits {
-        words: bits,
-        directory,
-        len,
-    };
-    Ok((row, bits_end + blocks))
 }
 
 // Whether each bit of the words after the first ones, so many of them, is a zero.
@@ -66,11 +68,11 @@ impl<'a> StoredRow<'a> for PlainBits<'a> {
     ghost reading = { plain_read };
 
     fn check(words: &'a [u64]) -> Result<usize, BitsFault> {
-        Ok(read(words)?.1)
+        PlainBits::read(words).map(|(_, room)| room)
     }
 
     fn new(words: &'a [u64]) -> PlainBits<'a> {
-        let Ok((row, _)) = read(words) else {
+        let Ok((row, _)) = PlainBits::read(words) else {
             return PlainBits {
                 words: &[],
                 directory: &[],

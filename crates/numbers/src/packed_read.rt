@@ -70,8 +70,7 @@ impl<'a> StoredRow<'a> for PackedNumbers<'a> {
     ghost reading = { packed_read };
 
     fn check(words: &'a [u64]) -> Result<usize, NumbersFault> {
-        let (_, end) = PackedNumbers::read(words)?;
-        Ok(end)
+        PackedNumbers::read(words).map(|(_, room)| room)
     }
 
     fn new(words: &'a [u64]) -> PackedNumbers<'a> {

@@ -52,8 +52,7 @@ impl<'a> StoredRow<'a> for PlainNumbers<'a> {
     ghost reading = { plain_numbers_read };
 
     fn check(words: &'a [u64]) -> Result<usize, NumbersFault> {
-        let (_, end) = PlainNumbers::read(words)?;
-        Ok(end)
+        PlainNumbers::read(words).map(|(_, room)| room)
     }
 
     fn new(words: &'a [u64]) -> PlainNumbers<'a> {

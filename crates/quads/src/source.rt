@@ -13,12 +13,12 @@ pub trait QuadSource {
     // The quads that the source lists.
     ghost means: { Self → Listing };
 
-    // What each implementation shows of them: they ascend strictly, and all their numbers are IDs.
-    ghost ascending: { (x : Self) → strictly_ascends quad_below (means x).quads ≡ true };
-
-    ghost ids: { (x : Self) → each has_ids (means x).quads ≡ true };
-
     // The first quad that matches the pattern and is not below the mark, or none if there is none.
     fn first(&self, pattern: Pattern, mark: Mark) -> Option<Quad>
         ensures { result ≡ first_from (means self.now) pattern mark };
+
+    // The laws, which each implementation shows: its quads ascend strictly, and all their numbers are IDs.
+    ghost ascending: { (x : Self) → strictly_ascends quad_below (means x).quads ≡ true };
+
+    ghost ids: { (x : Self) → each has_ids (means x).quads ≡ true };
 }

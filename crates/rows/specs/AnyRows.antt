@@ -11,6 +11,11 @@ abbrev pub any_items : {A B I : Type 0} → (A → List I) → (B → List I) �
 any_items plain compact (Plain row) = plain row
 any_items plain compact (Compact row) = compact row
 
+-- the kind of a row
+abbrev pub kind_of : {A B : Type 0} → AnyRow A B → RowKind
+kind_of (Plain row) = PlainKind
+kind_of (Compact row) = CompactKind
+
 -- of two things, one for each kind, that of this kind: the words of a row, what reading answers, and the like
 abbrev pub of_kind {ℓ} : {X : Type ℓ} → RowKind → X → X → X
 of_kind PlainKind plain compact = plain

@@ -1,6 +1,6 @@
 // Reading a row of a kind from words that may go on after it.
 ghost use Rattle.bits.specs.StoredRows.{FindsRow, ReadsRow, TakesRow};
-ghost use Rattle.rows.specs.AnyRows.{any_items, of_kind, items_at};
+ghost use Rattle.rows.specs.AnyRows.{any_items, kind_of, of_kind, items_at};
 ghost use Rattle.std.specs.Prelude.{◌≡◌};
 
 use crate::any_row::AnyRow;
@@ -10,6 +10,7 @@ use bits::StoredRow;
 impl<'a, P: StoredRow<'a>, C: StoredRow<'a, Item = P::Item>> AnyRow<P, C> {
     // The row of this kind at the front of the words, or an empty one if there is none.
     pub fn new(kind: RowKind, words: &'a [u64]) -> AnyRow<P, C>
+        ensures kind { kind_of result ≡ kind }
         ensures items { any_items P.Row.items C.Row.items result ≡ of_kind kind (items_at P.items_in P.reading) (items_at C.items_in C.reading) words.now }
         ensures list { ReadsRow (of_kind kind P.HasRow C.HasRow) (of_kind kind P.words_of C.words_of) words.now (any_items P.Row.items C.Row.items result) }
     {

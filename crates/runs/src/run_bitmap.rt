@@ -11,7 +11,7 @@ use bitmaps::CountedBitmap;
 use bits::Row;
 
 impl<'a> RunBits<'a> {
-    // How many runs end by the place. The next one is the first that ends after it.
+    // Which run is the first that ends after the place; past them all where none does.
     fn ended_by(&self, place: usize) -> usize
         ensures { slice_get self.now.runs.now result ≡ run_after self.now.runs.now place }
     {

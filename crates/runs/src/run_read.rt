@@ -28,31 +28,33 @@ fn are_lawful(runs: &[u64], len: usize) -> bool
     true
 }
 
-// The row at the front of the words and how many of them it takes, or the first fault.
-#[tactic(auto, using(std::proofs::lemmas::Bool::Decides::nat_tests, crate::proofs::RunReading::runs_cut), unfolding(crate::specs::RunRows::run_read))]
-fn read(words: &[u64]) -> Result<(RunBits<'_>, usize), BitsFault>
-    ensures room { room_taken result ≡ run_read words.now }
-    ensures bits { IfOk result (λ row. run_bits row.0 ≡ run_bits_in words.now) }
-{
-    let [len, count, ..] = words else {
-        return Err(BitsFault::Short);
-    };
-    if *len > MAX_LEN as u64 {
-        return Err(BitsFault::TooManyBits);
+impl<'a> RunBits<'a> {
+    // The row at the front of the words and how many of them it takes, or the first fault.
+    #[tactic(auto, using(std::proofs::lemmas::Bool::Decides::nat_tests, crate::proofs::RunReading::runs_cut), unfolding(crate::specs::RunRows::run_read))]
+    fn read(words: &'a [u64]) -> Result<(RunBits<'a>, usize), BitsFault>
+        ensures room { room_taken result ≡ run_read words.now }
+        ensures bits { IfOk result (λ row. run_bits row.0 ≡ run_bits_in words.now) }
+    {
+        let [len, count, ..] = words else {
+            return Err(BitsFault::Short);
+        };
+        if *len > MAX_LEN as u64 {
+            return Err(BitsFault::TooManyBits);
+        }
+        if *count > *len {
+            return Err(BitsFault::TooManyRuns);
+        }
+        let len = *len as usize;
+        let end = 2 + *count as usize;
+        if words.len() < end {
+            return Err(BitsFault::Short);
+        }
+        let runs = &words[2..end];
+        if !are_lawful(runs, len) {
+            return Err(BitsFault::WrongContent);
+        }
+        Ok((RunBits { runs, len }, end))
     }
-    if *count > *len {
-        return Err(BitsFault::TooManyRuns);
-    }
-    let len = *len as usize;
-    let end = 2 + *count as usize;
-    if words.len() < end {
-        return Err(BitsFault::Short);
-    }
-    let runs = &words[2..end];
-    if !are_lawful(runs, len) {
-        return Err(BitsFault::WrongContent);
-    }
-    Ok((RunBits { runs, len }, end))
 }
 
 impl<'a> StoredRow<'a> for RunBits<'a> {
@@ -69,11 +71,11 @@ impl<'a> StoredRow<'a> for RunBits<'a> {
     ghost reading = { run_read };
 
     fn check(words: &'a [u64]) -> Result<usize, BitsFault> {
-        Ok(read(words)?.1)
+        RunBits::read(words).map(|(_, room)| room)
     }
 
     fn new(words: &'a [u64]) -> RunBits<'a> {
-        let Ok((row, _)) = read(words) else {
+        let Ok((row, _)) = RunBits::read(words) else {
             return RunBits { runs: &[], len: 0 };
         };
         row

@@ -10,13 +10,13 @@ use crate::cursor::{Cursor, State};
 use crate::refusal::Refusal;
 use quads::{Mark, Pattern, Quad, QuadSource, one_more};
 
-pub(crate) const CLOSED: Cursor = Cursor {
-    state: State::Closed,
-    pattern: Pattern::ANY,
-    given: 0,
-};
-
 impl Cursor {
+    pub(crate) const CLOSED: Cursor = Cursor {
+        state: State::Closed,
+        pattern: Pattern::ANY,
+        given: 0,
+    };
+
     // Replies to what is asked, by the cursor's state; a refusal leaves the cursor as it was.
     pub(crate) fn answer<S: QuadSource>(&mut self, source: &S, ask: Ask) -> Result<Reply, Refusal>
         ensures outcome { replied result ≡ cursor_outcome (S.means source.now) self.old ask }
@@ -54,7 +54,7 @@ impl Cursor {
         ensures after { self.new ≡ closed }
     {
         let given = self.given;
-        *self = CLOSED;
+        *self = Cursor::CLOSED;
         Reply::Counted(given)
     }
 

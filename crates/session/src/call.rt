@@ -32,7 +32,7 @@ pub enum Call {
 
 // What a cursor that does not refuse answers.
 #[derive(Clone, Copy, PartialEq, Eq, Debug)]
-pub enum Reply {
+pub(crate) enum Reply {
     Opened,
     // The quad that was given, or that there is none.
     Next(Option<Quad>),

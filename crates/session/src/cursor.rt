@@ -3,7 +3,7 @@ use quads::{Mark, Pattern};
 
 // How far a cursor has come.
 #[derive(Clone, Copy)]
-pub enum State {
+pub(crate) enum State {
     Closed,
     // Open: the next quad is the first from this mark on.
     Waiting(Mark),
@@ -12,9 +12,9 @@ pub enum State {
 }
 
 // One of the eight cursors of a session. Its pattern and its count stand beside the state, and not in it: both open states
-// have them, and what a cursor answers goes by the state alone.
+// have them, and which answer a cursor has is one match on the state and on what is asked.
 #[derive(Clone, Copy)]
-pub struct Cursor {
+pub(crate) struct Cursor {
     pub(crate) state: State,
     // What this opening lists.
     pub(crate) pattern: Pattern,
@@ -24,7 +24,7 @@ pub struct Cursor {
 
 // The cursors, and what they gave in all. By rule of the project a session has a fixed number of cursors, in itself.
 #[derive(Clone, Copy)]
-pub struct Table {
+pub(crate) struct Table {
     pub(crate) cursors: [Cursor; 8],
     // How many quads all openings of all cursors gave, as counts are answered.
     pub(crate) given: u32,

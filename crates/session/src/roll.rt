@@ -26,7 +26,8 @@ impl Table {
             .count()
     }
 
-    // Writes the numbers of the open cursors at the front of the buffer, and answers how many.
+    // Writes the numbers of the open cursors at the front of the buffer, and answers how many. The count is the answer, and so no
+    // iterator over the buffer stands in for it.
     fn write_open(&self, buffer: &mut [u32]) -> usize
         requires { length (open_cursors self.now) ≤ length buffer.old }
         ensures count { result ≡ length (open_cursors self.now) }

@@ -4,9 +4,8 @@ ghost use Rattle.session.specs.Outcomes.{replied};
 ghost use Rattle.session.specs.Tables.{ask_outcome, ask_after, new_table};
 ghost use Rattle.std.specs.Prelude.{◌≡◌, false, is_ok};
 
-use crate::answer::CLOSED;
 use crate::call::{Ask, Reply};
-use crate::cursor::Table;
+use crate::cursor::{Cursor, Table};
 use crate::refusal::Refusal;
 use quads::{QuadSource, one_more};
 
@@ -31,7 +30,7 @@ impl Table {
         ensures { result ≡ new_table }
     {
         Table {
-            cursors: [CLOSED; 8],
+            cursors: [Cursor::CLOSED; 8],
             given: 0,
         }
     }

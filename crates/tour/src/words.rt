@@ -105,7 +105,7 @@ fn write_answer<W: fmt::Write>(f: &mut fmt::Formatter<W>, answer: Answer) -> fmt
     }
 }
 
-// The first so many of the numbers, each after a space.
+// The first so many of the numbers, each after a space. The count is what a roll answered beside its buffer.
 #[derive(Drop)]
 pub(crate) struct Front<'a>(pub(crate) &'a [u32], pub(crate) usize);
 

@@ -11,9 +11,9 @@ returns-then-ge g c =
     let s = c.args.source.now in
     let src = g.S.QuadSource in
     elim c.then-ge.branch [
-      | then-ge-via-then-ge w ↦ count_past (src.means s) (src.ascending s) (src.ids s) c.args.pattern c.loop-quad.mark c.args.to c.loop-quad.count _
+      | then-ge-via-then-ge w ↦ count_past (src.means s) (g.met.S.QuadSource.ascending s) (g.met.S.QuadSource.ids s) c.args.pattern c.loop-quad.mark c.args.to c.loop-quad.count _
           c.loop-quad.invariant.1 c.in-Some.quad c.loop-quad.invariant.0 (sym c.in-Some.ensures) (not_below_told _ _ w.if-ge.ensures)
-      | then-ge-via-else-ge+then-count w ↦ count_full (src.means s) (src.ascending s) (src.ids s) c.args.pattern c.loop-quad.mark c.args.to c.loop-quad.count _
+      | then-ge-via-else-ge+then-count w ↦ count_full (src.means s) (g.met.S.QuadSource.ascending s) (g.met.S.QuadSource.ids s) c.args.pattern c.loop-quad.mark c.args.to c.loop-quad.count _
           c.loop-quad.invariant.1 w.if-count.true
     ]
 
@@ -21,7 +21,7 @@ pub right_after-mark-requires : goal.right_after-mark-requires
 right_after-mark-requires g c =
     let s = c.args.source.now in
     let src = g.S.QuadSource in
-    first_graph (src.means s) (src.ascending s) (src.ids s) c.args.pattern c.loop-quad.mark c.in-Some.quad (sym c.in-Some.ensures)
+    first_graph (src.means s) (g.met.S.QuadSource.ascending s) (g.met.S.QuadSource.ids s) c.args.pattern c.loop-quad.mark c.in-Some.quad (sym c.in-Some.ensures)
 
 pub loop-quad-smaller : goal.loop-quad-smaller
 loop-quad-smaller g c =
@@ -29,7 +29,7 @@ loop-quad-smaller g c =
     let src = g.S.QuadSource in
     subst (λ m. length (not_below m (matching (src.means s) c.args.pattern)) < length (not_below c.loop-quad.mark (matching (src.means s) c.args.pattern)))
     (sym c.right_after-mark.ensures)
-    (first_less (src.means s) (src.ascending s) (src.ids s) c.args.pattern c.loop-quad.mark c.in-Some.quad (sym c.in-Some.ensures))
+    (first_less (src.means s) (g.met.S.QuadSource.ascending s) (g.met.S.QuadSource.ids s) c.args.pattern c.loop-quad.mark c.in-Some.quad (sym c.in-Some.ensures))
 
 pub loop-quad-preserved : goal.loop-quad-preserved
 loop-quad-preserved g c =
@@ -38,7 +38,7 @@ loop-quad-preserved g c =
       omega arith,
       subst (λ m. c.loop-quad.count + 1 + length (between m c.args.to (matching (src.means s) c.args.pattern)) ≡ length (between c.args.from c.args.to (matching (src.means s) c.args.pattern)))
           (sym c.right_after-mark.ensures)
-          (count_more (src.means s) (src.ascending s) (src.ids s) c.args.pattern c.loop-quad.mark c.args.to c.loop-quad.count _
+          (count_more (src.means s) (g.met.S.QuadSource.ascending s) (g.met.S.QuadSource.ids s) c.args.pattern c.loop-quad.mark c.args.to c.loop-quad.count _
           c.loop-quad.invariant.1 c.in-Some.quad (sym c.in-Some.ensures) (below_told _ _ c.if-ge.ensures)),
     )
 
@@ -46,5 +46,5 @@ pub returns : goal.returns
 returns g c =
     let s = c.args.source.now in
     let src = g.S.QuadSource in
-    count_none (src.means s) (src.ascending s) (src.ids s) c.args.pattern c.loop-quad.mark c.args.to c.loop-quad.count _
+    count_none (src.means s) (g.met.S.QuadSource.ascending s) (g.met.S.QuadSource.ids s) c.args.pattern c.loop-quad.mark c.args.to c.loop-quad.count _
     c.loop-quad.invariant.1 c.loop-quad.invariant.0 (sym c.in_default.ensures)

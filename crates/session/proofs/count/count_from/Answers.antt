@@ -8,4 +8,4 @@ returns g c =
     let s = c.args.source.now in
     let src = g.S.QuadSource in
     c.count_between.ensures
-    ∙ ap (λ qs. capped (length qs)) (between_top (src.means s) (src.ascending s) (src.ids s) c.args.pattern c.args.from _ (omega arith))
+    ∙ ap (λ qs. capped (length qs)) (between_top (src.means s) (g.met.S.QuadSource.ascending s) (g.met.S.QuadSource.ids s) c.args.pattern c.args.from _ (omega arith))

@@ -20,8 +20,8 @@ returns g c =
     let told = c.in_ok-count.ensures in
     let size = part_size c.args.room c.min.result c.min.ensures in
     record {
-      law = roll_ok (q.means s) (q.ascending s) (q.ids s) t c.args.room c.in_ok-count.count _ c.roll.new.buffer _ size (omega arith) told.answer told.law;
-      rest = roll_rest (q.means s) (q.ascending s) (q.ids s) t c.args.room c.in_ok-count.count _ c.roll.new.buffer _ size (omega arith) zeros told.answer told.rest (take-append-drop (c.min.result - 0) zeros);
+      law = roll_ok (q.means s) (g.met.S.QuadSource.ascending s) (g.met.S.QuadSource.ids s) t c.args.room c.in_ok-count.count _ c.roll.new.buffer _ size (omega arith) told.answer told.law;
+      rest = roll_rest (q.means s) (g.met.S.QuadSource.ascending s) (g.met.S.QuadSource.ids s) t c.args.room c.in_ok-count.count _ c.roll.new.buffer _ size (omega arith) zeros told.answer told.rest (take-append-drop (c.min.result - 0) zeros);
     }
 
 pub returns-in_err-count : goal.returns-in_err-count
@@ -34,6 +34,6 @@ returns-in_err-count g c =
     let p = err_from_is_err_and c.from_residual.result c.from_residual.ensures.1 in
     rw (p.1, p.2)
     (record {
-      law = roll_err (q.means s) (q.ascending s) (q.ids s) t c.args.room 0 _ c.roll.new.buffer (drop 0 zeros) size (omega arith) _ c.in_err-count.ensures.law;
+      law = roll_err (q.means s) (g.met.S.QuadSource.ascending s) (g.met.S.QuadSource.ids s) t c.args.room 0 _ c.roll.new.buffer (drop 0 zeros) size (omega arith) _ c.in_err-count.ensures.law;
       rest = tt;
     })

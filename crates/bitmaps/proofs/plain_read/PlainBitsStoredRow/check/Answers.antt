@@ -1,12 +1,9 @@
-use Rattle.std.proofs.Common.{Ok, rules, arith}
+use Rattle.std.proofs.Common.{arith, rules}
 use Rattle.bitmaps.proofs.PlainRowLaws.{takes, finds}
 use Rattle.bitmaps.proofs.plain_read.PlainBitsStoredRow.check.Goals as goal
 
-pub returns-in_err-read-clause-found : goal.returns-in_err-read-clause-found
-returns-in_err-read-clause-found c = finds c.args.words.now c.from_residual.result (search rules)
-
 pub returns-clause-row : goal.returns-clause-row
-returns-clause-row c = takes c.args.words.now (λ i. omega (arith, c.type_inv.words i)) (Ok c.in_ok-read.field-0.1) c.in_ok-read.ensures.room
+returns-clause-row c = takes c.args.words.now (λ i. omega (arith, c.type_inv.words i)) c.map.result (search rules)
 
 pub returns-clause-found : goal.returns-clause-found
-returns-clause-found c = finds c.args.words.now (Ok c.in_ok-read.field-0.1) c.in_ok-read.ensures.room
+returns-clause-found c = finds c.args.words.now c.map.result (search rules)

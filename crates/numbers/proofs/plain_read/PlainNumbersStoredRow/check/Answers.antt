@@ -1,12 +1,9 @@
-use Rattle.std.proofs.Common.{Ok, rules}
+use Rattle.std.proofs.Common.{rules}
 use Rattle.numbers.proofs.PlainNumberLaws.{takes, finds}
 use Rattle.numbers.proofs.plain_read.PlainNumbersStoredRow.check.Goals as goal
 
-pub returns-in_err-end-clause-found : goal.returns-in_err-end-clause-found
-returns-in_err-end-clause-found c = finds c.args.words.now c.from_residual.result (search rules)
-
 pub returns-clause-row : goal.returns-clause-row
-returns-clause-row c = takes c.args.words.now (Ok c.in_ok-end.end) c.in_ok-end.ensures.room
+returns-clause-row c = takes c.args.words.now c.map.result (search rules)
 
 pub returns-clause-found : goal.returns-clause-found
-returns-clause-found c = finds c.args.words.now (Ok c.in_ok-end.end) c.in_ok-end.ensures.room
+returns-clause-found c = finds c.args.words.now c.map.result (search rules)

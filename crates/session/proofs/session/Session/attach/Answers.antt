@@ -7,4 +7,4 @@ pub returns : goal.returns
 returns g c =
     let q = g.S.QuadSource in
     let s = c.args.source.now in
-    record { source = refl; closed = c.new.ensures; law = subst (Keeps (q.means s) []) (sym c.new.ensures) (keeps_none (q.means s) (q.ascending s) (q.ids s)) }
+    record { source = refl; closed = c.new.ensures; law = subst (Keeps (q.means s) []) (sym c.new.ensures) (keeps_none (q.means s) (g.met.S.QuadSource.ascending s) (g.met.S.QuadSource.ids s)) }

@@ -11,5 +11,5 @@ returns g c =
       answer = told.answer;
       wrote = told.wrote;
       rest = told.rest;
-      law = roll_follows (q.means s) (q.ascending s) (q.ids s) c.args.self.now.table c.args.buffer.now _ _ (omega arith) told.answer told.wrote;
+      law = roll_follows (q.means s) (g.met.S.QuadSource.ascending s) (g.met.S.QuadSource.ids s) c.args.self.now.table c.args.buffer.now _ _ (omega arith) told.answer told.wrote;
     }

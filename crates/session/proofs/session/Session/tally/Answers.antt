@@ -6,4 +6,4 @@ pub returns : goal.returns
 returns g c =
     let q = g.S.QuadSource in
     let s = c.args.self.now.source.now in
-    record { answer = refl; law = tally_follows (q.means s) (q.ascending s) (q.ids s) c.args.self.now.table }
+    record { answer = refl; law = tally_follows (q.means s) (g.met.S.QuadSource.ascending s) (g.met.S.QuadSource.ids s) c.args.self.now.table }
