@@ -4,12 +4,12 @@ use Rattle.std.specs.List.{range_with_len}
 use Rattle.std.proofs.lemmas.List.FromFn.{length-map-range_with_len, get_or-map-range_with_len, fill_by_all}
 use Rattle.std.proofs.lemmas.List.{length-take, length-drop, get_or-take, get_or-drop, get_or_past, take_at, drop_at, take-take, drop-take, take-append-drop}
 use Rattle.std.proofs.lemmas.Bool.{eq-eqb, not_from_false}
-use Rattle.bits.specs.StoredRows.{items_read, TakesRow, FindsRow, ReadsRow}
+use Rattle.bits.specs.StoredRows.{TakesRow, FindsRow, ReadsRow}
 use Rattle.bits.specs.Words.{bit_at, bits_in, words_for, packed_bits, spare_zero}
 use Rattle.bits.proofs.Packed.{bit_packed, bits_packed}
 use Rattle.bits.proofs.Ranges.{each_from_range}
 use Rattle.bits.proofs.SpareWords.{packed_spare}
-use Rattle.bits.proofs.StoredLaws.{takes_row, finds_row, reads_row}
+use Rattle.bits.proofs.StoredLaws.{takes_row, finds_row}
 use Rattle.bitmaps.specs.BitRows.{HasBitRow}
 use Rattle.bitmaps.specs.Counts.{ones_of, rank_of}
 use Rattle.bitmaps.specs.PlainRoom.{packed_long, directory_long, room_told}
@@ -112,5 +112,5 @@ takes ws fits = takes_row plain_words plain_bits_in plain_read ws (λ n e. let f
 pub finds : (ws : List ℕ) (r : Result ℕ BitsFault) → r ≡ plain_read ws → FindsRow HasBitRow plain_words (λ bits. plain_room (length bits)) ws r
 finds = finds_row plain_words plain_bits_in plain_read HasBitRow (λ bits. plain_room (length bits)) (λ bits rest few. sym (found_row bits few rest))
 
-pub reads : (ws : List ℕ) (read : List Bool) → read ≡ items_read plain_bits_in (plain_read ws) ws → ReadsRow HasBitRow plain_words ws read
-reads = reads_row plain_words plain_bits_in plain_read HasBitRow (λ bits. plain_room (length bits)) (λ bits rest few. sym (found_row bits few rest)) (λ bits rest few. found-bits bits few rest)
+pub tells : (ws : List ℕ) → ReadsRow HasBitRow plain_words ws (plain_bits_in ws)
+tells ws items rest has e = ap plain_bits_in e ∙ found-bits items has rest

@@ -15,7 +15,7 @@ use bits::{BareBits, MAX_LEN, StoredRow};
 impl<'a> PlainBits<'a> {
     // The row at the front of the words and how many of them it takes, or the first fault.
     #[tactic(auto, using(std::proofs::lemmas::Bool::Decides::nat_tests, crate::proofs::PlainReading::bits_cut, crate::proofs::PlainReading::directory_cut), unfolding(crate::specs::PlainRows::plain_read))]
-    fn read(words: &'a [u64]) -> Result<(PlainBits<'a>, usize), BitsFault>
+    fn parse(words: &'a [u64]) -> Result<(PlainBits<'a>, usize), BitsFault>
         ensures room { room_taken result ≡ plain_read words.now }
         ensures bits { IfOk result (λ row. plain_bits row.0 ≡ plain_bits_in words.now) }
     {
@@ -67,19 +67,16 @@ impl<'a> StoredRow<'a> for PlainBits<'a> {
 
     ghost reading = { plain_read };
 
-    fn check(words: &'a [u64]) -> Result<usize, BitsFault> {
-        PlainBits::read(words).map(|(_, room)| room)
+    fn read(words: &'a [u64]) -> Result<(PlainBits<'a>, usize), BitsFault> {
+        PlainBits::parse(words)
     }
 
-    fn new(words: &'a [u64]) -> PlainBits<'a> {
-        let Ok((row, _)) = PlainBits::read(words) else {
-            return PlainBits {
-                words: &[],
-                directory: &[],
-                len: 0,
-            };
-        };
-        row
+    fn empty() -> PlainBits<'a> {
+        PlainBits {
+            words: &[],
+            directory: &[],
+            len: 0,
+        }
     }
 
     ghost room = { room_told };

@@ -1,7 +1,7 @@
 -- The laws of reading a kind of row, from what its reading answers: the words of what is read, and that of the words of a
 -- list that has a row this list is read. Assumes nothing.
-use Rattle.std.proofs.Common.{◌≡◌, ℕ, List, ◌++◌, take, Ok, Result, sym, refl, ap, ◌∙◌}
-use Rattle.bits.specs.StoredRows.{FindsRow, TakesRow, ReadsRow, items_read}
+use Rattle.std.proofs.Common.{◌≡◌, ℕ, List, ◌++◌, take, Ok, Result, sym, ap, ◌∙◌}
+use Rattle.bits.specs.StoredRows.{FindsRow, TakesRow, items_read}
 
 module _ {A F : Type 0} (words_of : List A → List ℕ) (items_in : List ℕ → List A) (reading : List ℕ → Result ℕ F) where
   pub takes_row : (ws : List ℕ) → ((n : ℕ) → Ok n ≡ reading ws → take n ws ≡ words_of (items_in ws)) → (r : Result ℕ F) → r ≡ reading ws → TakesRow words_of items_in ws r
@@ -10,10 +10,3 @@ module _ {A F : Type 0} (words_of : List A → List ℕ) (items_in : List ℕ �
   module _ (HasRow : List A → Type 0) (room_of : List A → ℕ) (found : (items : List A) (rest : List ℕ) → HasRow items → Ok (room_of items) ≡ reading (words_of items ++ rest)) where
     pub finds_row : (ws : List ℕ) (r : Result ℕ F) → r ≡ reading ws → FindsRow HasRow words_of room_of ws r
     finds_row ws r is items rest has e = is ∙ ap reading e ∙ sym (found items rest has)
-
-    pub reads_row : ((items : List A) (rest : List ℕ) → HasRow items → items_in (words_of items ++ rest) ≡ items) → (ws : List ℕ) (read : List A) → read ≡ items_read items_in (reading ws) ws → ReadsRow HasRow words_of ws read
-    reads_row again ws read is items rest has e =
-        is
-        ∙ ap (λ r. items_read items_in r ws) (finds_row ws (reading ws) refl items rest has e)
-        ∙ ap items_in e
-        ∙ again items rest has

@@ -1,17 +1,15 @@
 // The trait of rows that lie in words: each kind says which words a list of items takes, and reads its rows from words.
-// Every kind writes `check` and `new` itself, though they read alike. As methods of the trait they would need the clauses `row`,
-// `found` and `list` as laws of the trait, and the proofs of a law have to stand in specs/, which is to be read by people.
-ghost use Rattle.bits.specs.StoredRows.{TakesRow, FindsRow, ReadsRow, items_read};
-ghost use Rattle.std.specs.Prelude.{◌≡◌, ℕ, List, Result, length};
+ghost use Rattle.bits.specs.StoredRows.{TakesRow, FindsRow, ReadsRow, items_read, room_taken};
+ghost use Rattle.std.specs.Prelude.{◌≡◌, ℕ, List, [], Result, IfOk, length};
 
 use crate::row::Row;
 
 // The most bits or numbers that a row may have.
 pub const MAX_LEN: usize = 67_108_864;
 
-pub trait StoredRow<'a>: Row {
+pub trait StoredRow<'a>: Row + Drop + Sized {
     // Why words are no row of this kind.
-    type Fault;
+    type Fault: Drop;
 
     // Which lists of items have a row of this kind.
     ghost HasRow: { List Self.Item → Type 0 };
@@ -27,16 +25,37 @@ pub trait StoredRow<'a>: Row {
     // How many words the row at the front of these takes, or the first fault.
     ghost reading: { List ℕ → Result ℕ Self.Fault };
 
+    // The row at the front of the words and how many of them it takes, or the first fault.
+    fn read(words: &'a [u64]) -> Result<(Self, usize), Self::Fault>
+        ensures answer { room_taken result ≡ reading words.now }
+        ensures items { IfOk result (λ read. Self.items read.0 ≡ items_in words.now) }
+        ensures row { TakesRow words_of items_in words.now (room_taken result) }
+        ensures found { FindsRow HasRow words_of room_of words.now (room_taken result) }
+        ensures told { ReadsRow HasRow words_of words.now (items_in words.now) };
+
+    // A row of no items.
+    fn empty() -> Self
+        ensures { Self.items result ≡ [] };
+
     // How many words the row at the front of these takes, or the first fault.
-    fn check(words: &'a [u64]) -> Result<usize, Self::Fault>
+    final fn check(words: &'a [u64]) -> Result<usize, Self::Fault>
         ensures answer { result ≡ reading words.now }
         ensures row { TakesRow words_of items_in words.now result }
-        ensures found { FindsRow HasRow words_of room_of words.now result };
+        ensures found { FindsRow HasRow words_of room_of words.now result }
+    {
+        Self::read(words).map(|(_, room)| room)
+    }
 
     // The row at the front of the words, or an empty one if there is none.
-    fn new(words: &'a [u64]) -> Self
+    final fn new(words: &'a [u64]) -> Self
         ensures items { Self.items result ≡ items_read items_in (reading words.now) words.now }
-        ensures list { ReadsRow HasRow words_of words.now (Self.items result) };
+        ensures list { ReadsRow HasRow words_of words.now (Self.items result) }
+    {
+        match Self::read(words) {
+            Ok((row, _)) => row,
+            Err(_) => Self::empty(),
+        }
+    }
 
     // Each list that has a row takes so many words.
     ghost room: { (items : List Self.Item) → HasRow items → room_of items ≡ length (words_of items) };

@@ -3,7 +3,7 @@ use Rattle.std.proofs.Common.{◌≡◌, ℕ, suc, ◌+◌, ◌*◌, ◌^◌, �
 use Rattle.std.proofs.lemmas.Bool.Decides.{nat_tests}
 use Rattle.std.proofs.lemmas.List.FromFn.{length-map-range_with_len}
 use Rattle.std.proofs.lemmas.List.{length-append, length-drop, length-take-le, get_or-take, get_or-drop, get_or_past, take_at}
-use Rattle.bits.specs.StoredRows.{FindsRow, TakesRow, ReadsRow, items_read}
+use Rattle.bits.specs.StoredRows.{FindsRow, TakesRow, ReadsRow}
 use Rattle.bits.specs.Words.{number_of, words_for, packed_bits, spare_zero}
 use Rattle.bits.proofs.Packed.{bit_packed}
 use Rattle.bits.proofs.Spare.{spare_clear}
@@ -13,7 +13,7 @@ use Rattle.numbers.specs.NumbersIn.{number_in, numbers_in}
 use Rattle.numbers.specs.PackedNumberRows.{packed_read, count_of, width_in, content_words, numbers_packed}
 use Rattle.numbers.specs.declared.fault.NumbersFault.{NumbersFault}
 use Rattle.numbers.proofs.NumberBits.{numbers_below, bits_of_numbers, bits_long, numbers_there}
-use Rattle.bits.proofs.StoredLaws.{takes_row, finds_row, reads_row}
+use Rattle.bits.proofs.StoredLaws.{takes_row, finds_row}
 use Rattle.numbers.proofs.Widths.{width_holds, width_least}
 
 -- what is so of words of which a row was read
@@ -103,5 +103,5 @@ takes ws r is fits = takes_row packed_words numbers_packed packed_read ws (taken
 pub finds : (ws : List ℕ) (r : Result ℕ NumbersFault) → r ≡ packed_read ws → FindsRow HasNumbers packed_words packed_numbers_room ws r
 finds = finds_row packed_words numbers_packed packed_read HasNumbers packed_numbers_room found
 
-pub reads : (ws read : List ℕ) → read ≡ items_read numbers_packed (packed_read ws) ws → ReadsRow HasNumbers packed_words ws read
-reads = reads_row packed_words numbers_packed packed_read HasNumbers packed_numbers_room found again
+pub tells : (ws : List ℕ) → ReadsRow HasNumbers packed_words ws (numbers_packed ws)
+tells ws items rest has e = ap numbers_packed e ∙ again items rest has

@@ -1,11 +1,11 @@
 -- What is read of plain numbers: the words of a list of numbers, and of the words of every such list. Assumes nothing.
-use Rattle.std.proofs.Common.{◌≡◌, ℕ, suc, ◌<◌, ◌≤◌, ◌^◌, true, ltb, List, [], ◌∷◌, ◌++◌, length, take, All, Ok, Result, sym, refl, ap, arith}
+use Rattle.std.proofs.Common.{◌≡◌, ℕ, suc, ◌<◌, ◌≤◌, ◌^◌, true, ltb, List, [], ◌∷◌, ◌++◌, length, take, All, Ok, Result, sym, refl, ap, ◌∙◌, arith}
 use Rattle.std.proofs.lemmas.Bool.Decides.{nat_tests}
 use Rattle.std.proofs.lemmas.List.{length-append, length-take-le, take_at}
 use Rattle.std.proofs.lemmas.Bool.{lt-ltb}
 use Rattle.ordered.proofs.Lists.{each_from_places}
-use Rattle.bits.specs.StoredRows.{FindsRow, TakesRow, ReadsRow, items_read}
-use Rattle.bits.proofs.StoredLaws.{takes_row, finds_row, reads_row}
+use Rattle.bits.specs.StoredRows.{FindsRow, TakesRow, ReadsRow}
+use Rattle.bits.proofs.StoredLaws.{takes_row, finds_row}
 use Rattle.numbers.specs.NumberWords.{each_below, HasNumbers, plain_number_words, plain_numbers_room}
 use Rattle.numbers.specs.declared.fault.NumbersFault.{NumbersFault}
 use Rattle.numbers.specs.PlainNumberRows.{plain_numbers_read, numbers_after}
@@ -37,5 +37,5 @@ takes ws = takes_row plain_number_words numbers_after plain_numbers_read ws (tak
 pub finds : (ws : List ℕ) (r : Result ℕ NumbersFault) → r ≡ plain_numbers_read ws → FindsRow HasNumbers plain_number_words plain_numbers_room ws r
 finds = finds_row plain_number_words numbers_after plain_numbers_read HasNumbers plain_numbers_room found
 
-pub reads : (ws read : List ℕ) → read ≡ items_read numbers_after (plain_numbers_read ws) ws → ReadsRow HasNumbers plain_number_words ws read
-reads = reads_row plain_number_words numbers_after plain_numbers_read HasNumbers plain_numbers_room found again
+pub tells : (ws : List ℕ) → ReadsRow HasNumbers plain_number_words ws (numbers_after ws)
+tells ws items rest has e = ap numbers_after e ∙ again items rest has

@@ -24,7 +24,7 @@ impl<'a> PackedNumbers<'a> {
 
     // The row at the front of the words, and how many of them it takes, or the first fault.
     #[tactic(auto, unfolding(crate::specs::PackedNumberRows::packed_read))]
-    fn read(words: &'a [u64]) -> Result<(PackedNumbers<'a>, usize), NumbersFault>
+    fn parse(words: &'a [u64]) -> Result<(PackedNumbers<'a>, usize), NumbersFault>
         ensures room { room_taken result ≡ packed_read words.now }
         ensures numbers { IfOk result (λ read. packed_numbers read.0 ≡ numbers_packed words.now) }
     {
@@ -69,19 +69,16 @@ impl<'a> StoredRow<'a> for PackedNumbers<'a> {
 
     ghost reading = { packed_read };
 
-    fn check(words: &'a [u64]) -> Result<usize, NumbersFault> {
-        PackedNumbers::read(words).map(|(_, room)| room)
+    fn read(words: &'a [u64]) -> Result<(PackedNumbers<'a>, usize), NumbersFault> {
+        PackedNumbers::parse(words)
     }
 
-    fn new(words: &'a [u64]) -> PackedNumbers<'a> {
-        let Ok((row, _)) = PackedNumbers::read(words) else {
-            return PackedNumbers {
-                words: &[],
-                width: 1,
-                len: 0,
-            };
-        };
-        row
+    fn empty() -> PackedNumbers<'a> {
+        PackedNumbers {
+            words: &[],
+            width: 1,
+            len: 0,
+        }
     }
 
     ghost room = { packed_takes };

@@ -20,7 +20,7 @@ fn are_below(words: &[u64]) -> bool
 impl<'a> PlainNumbers<'a> {
     // The row at the front of the words, and how many of them it takes, or the first fault.
     #[tactic(auto, unfolding(crate::specs::PlainNumberRows::plain_numbers_read))]
-    fn read(words: &'a [u64]) -> Result<(PlainNumbers<'a>, usize), NumbersFault>
+    fn parse(words: &'a [u64]) -> Result<(PlainNumbers<'a>, usize), NumbersFault>
         ensures room { room_taken result ≡ plain_numbers_read words.now }
         ensures numbers { IfOk result (λ read. plain_numbers read.0 ≡ numbers_after words.now) }
     {
@@ -51,15 +51,12 @@ impl<'a> StoredRow<'a> for PlainNumbers<'a> {
 
     ghost reading = { plain_numbers_read };
 
-    fn check(words: &'a [u64]) -> Result<usize, NumbersFault> {
-        PlainNumbers::read(words).map(|(_, room)| room)
+    fn read(words: &'a [u64]) -> Result<(PlainNumbers<'a>, usize), NumbersFault> {
+        PlainNumbers::parse(words)
     }
 
-    fn new(words: &'a [u64]) -> PlainNumbers<'a> {
-        let Ok((row, _)) = PlainNumbers::read(words) else {
-            return PlainNumbers { words: &[] };
-        };
-        row
+    fn empty() -> PlainNumbers<'a> {
+        PlainNumbers { words: &[] }
     }
 
     ghost room = { plain_takes };

@@ -4,8 +4,8 @@ use Rattle.std.specs.List.{range_with_len}
 use Rattle.std.proofs.lemmas.List.FromFn.{length-map-range_with_len, length-range_with_len}
 use Rattle.std.proofs.lemmas.List.{length-map, length-append, length-take, length-drop, take_at}
 use Rattle.std.proofs.lemmas.List.Sums.{length-filter, count_by-le-length}
-use Rattle.bits.proofs.StoredLaws.{takes_row, finds_row, reads_row}
-use Rattle.bits.specs.StoredRows.{items_read, TakesRow, FindsRow, ReadsRow}
+use Rattle.bits.proofs.StoredLaws.{takes_row, finds_row}
+use Rattle.bits.specs.StoredRows.{TakesRow, FindsRow, ReadsRow}
 use Rattle.bitmaps.specs.BitRows.{HasBitRow}
 use Rattle.bitmaps.specs.declared.fault.BitsFault.{BitsFault}
 use Rattle.runs.specs.RunMeaning.{covered_bits}
@@ -77,5 +77,5 @@ takes ws = takes_row run_words run_bits_in run_read ws (λ n e. let f = row_fact
 pub finds : (ws : List ℕ) (r : Result ℕ BitsFault) → r ≡ run_read ws → FindsRow HasBitRow run_words run_room ws r
 finds = finds_row run_words run_bits_in run_read HasBitRow run_room (λ bits rest few. sym (found_row bits few rest))
 
-pub reads : (ws : List ℕ) (read : List Bool) → read ≡ items_read run_bits_in (run_read ws) ws → ReadsRow HasBitRow run_words ws read
-reads = reads_row run_words run_bits_in run_read HasBitRow run_room (λ bits rest few. sym (found_row bits few rest)) (λ bits rest few. found-bits bits few rest)
+pub tells : (ws : List ℕ) → ReadsRow HasBitRow run_words ws (run_bits_in ws)
+tells ws items rest has e = ap run_bits_in e ∙ found-bits items has rest

@@ -31,7 +31,7 @@ fn are_lawful(runs: &[u64], len: usize) -> bool
 impl<'a> RunBits<'a> {
     // The row at the front of the words and how many of them it takes, or the first fault.
     #[tactic(auto, using(std::proofs::lemmas::Bool::Decides::nat_tests, crate::proofs::RunReading::runs_cut), unfolding(crate::specs::RunRows::run_read))]
-    fn read(words: &'a [u64]) -> Result<(RunBits<'a>, usize), BitsFault>
+    fn parse(words: &'a [u64]) -> Result<(RunBits<'a>, usize), BitsFault>
         ensures room { room_taken result ≡ run_read words.now }
         ensures bits { IfOk result (λ row. run_bits row.0 ≡ run_bits_in words.now) }
     {
@@ -70,15 +70,12 @@ impl<'a> StoredRow<'a> for RunBits<'a> {
 
     ghost reading = { run_read };
 
-    fn check(words: &'a [u64]) -> Result<usize, BitsFault> {
-        RunBits::read(words).map(|(_, room)| room)
+    fn read(words: &'a [u64]) -> Result<(RunBits<'a>, usize), BitsFault> {
+        RunBits::parse(words)
     }
 
-    fn new(words: &'a [u64]) -> RunBits<'a> {
-        let Ok((row, _)) = RunBits::read(words) else {
-            return RunBits { runs: &[], len: 0 };
-        };
-        row
+    fn empty() -> RunBits<'a> {
+        RunBits { runs: &[], len: 0 }
     }
 
     ghost room = { room_told };

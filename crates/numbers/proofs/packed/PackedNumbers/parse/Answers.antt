@@ -8,7 +8,7 @@ use Rattle.bits.proofs.SpareTold.{spare_told}
 use Rattle.numbers.specs.NumberWords.{width_of}
 use Rattle.numbers.specs.NumbersIn.{IsWidth, numbers_in, largest_of}
 use Rattle.numbers.specs.PackedNumberRows.{packed_read, count_of, width_in, content_words, numbers_packed}
-use Rattle.numbers.proofs.packed.PackedNumbers.read.Goals as goal
+use Rattle.numbers.proofs.packed.PackedNumbers.parse.Goals as goal
 
 -- what the words that were cut out tell of the row: its spare bits, its numbers, and their width by the largest
 module _ (ws content : List ℕ) (len : ℕ) (is : content ≡ content_words ws) (counted : len ≡ count_of ws) where

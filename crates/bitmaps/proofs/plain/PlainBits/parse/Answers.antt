@@ -2,7 +2,7 @@ use Rattle.std.proofs.Common.{◌+◌, ◌-◌, drop, sym, arith}
 use Rattle.std.proofs.lemmas.List.{length-take, length-drop}
 use Rattle.bits.proofs.Spare.{spare_all}
 use Rattle.bitmaps.proofs.PlainReading.{ones_told}
-use Rattle.bitmaps.proofs.plain.PlainBits.read.Goals as goal
+use Rattle.bitmaps.proofs.plain.PlainBits.parse.Goals as goal
 
 pub invariant_of-row-clause-spare : goal.invariant_of-row-clause-spare
 invariant_of-row-clause-spare c = spare_all _ _ (sym c.if-not-is_spare_zero.ensures)

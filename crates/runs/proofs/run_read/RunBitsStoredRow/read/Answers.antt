@@ -1,0 +1,11 @@
+use Rattle.runs.proofs.RunRowLaws.{takes, finds, tells}
+use Rattle.runs.proofs.run_read.RunBitsStoredRow.read.Goals as goal
+
+pub returns-clause-row : goal.returns-clause-row
+returns-clause-row c = takes c.args.words.now _ c.parse.ensures.room
+
+pub returns-clause-found : goal.returns-clause-found
+returns-clause-found c = finds c.args.words.now _ c.parse.ensures.room
+
+pub returns-clause-told : goal.returns-clause-told
+returns-clause-told c = tells c.args.words.now
