@@ -1,4 +1,5 @@
-// The ones of a stretch of words: how many, the first, and the one of a number.
+// The ones of a stretch of words: how many, the first, and the one of a number. That the words are few stands at each function,
+// and in no struct: it would be made of a slice for a single call each time.
 ghost use Rattle.bitmaps.specs.Counts.{ones_of, select_of};
 ghost use Rattle.bitmaps.specs.Stretches.{stretch_bits};
 ghost use Rattle.bits.specs.Words.{bit_at};

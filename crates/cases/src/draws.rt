@@ -130,20 +130,17 @@ impl Draws {
         })
     }
 
-    // Some of the quads, in ascending order. A loop, since a filter's closure would need a clause that the rarity is not 0.
+    // Some of the quads, in ascending order.
     pub(crate) fn list(&mut self, heap: Global) -> Result<Vec<Quad>, AllocError> {
-        let mut list = Vec::new(heap);
         let quads = self.all_quads();
         let rarity = self.below(16) + 5;
-        for quad in quads {
-            if self.below(rarity) == 0 {
-                list.push(quad)?;
-            }
-        }
-        Ok(list)
+        quads
+            .into_iter()
+            .filter(|_| self.below(rarity) == 0)
+            .collect(heap)
     }
 
-    // The same, with a few quads among them that may not stand there.
+    // The same, with a few quads among them that may not stand there. A loop, since what is drawn for a quad decides how many go in.
     pub(crate) fn spoiled_list(&mut self, heap: Global) -> Result<Vec<Quad>, AllocError> {
         let mut list = Vec::new(heap);
         let quads = self.all_quads();

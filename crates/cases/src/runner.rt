@@ -42,6 +42,7 @@ impl<'a, 'q, R: Print + AllocGlobal> Runner<'a, 'q, R> {
         Ok(())
     }
 
+    // Makes the call by its name, as a transcript does, so that the transcript can be held against it.
     pub(crate) fn ask(&mut self, cursor: u32, ask: Ask) -> io::Result<()> {
         let session = &mut self.session;
         let answer = match ask {
@@ -106,7 +107,7 @@ impl<'a, 'q, R: Print + AllocGlobal> Runner<'a, 'q, R> {
     }
 }
 
-// So many numbers at the front of the buffer, and zeros after them.
+// So many numbers at the front of the buffer, and zeros after them, as a transcript keeps them: in fixed memory.
 fn front(buffer: &[u32], count: usize) -> [u32; 8] {
     let mut front = [0; 8];
     for (kept, number) in front.iter_mut().zip(buffer.iter().take(count)) {

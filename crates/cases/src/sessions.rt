@@ -30,7 +30,8 @@ fn one_session(
     runner.compare()
 }
 
-// One drawn call. Each kind has its share of eighteen, so that most cursors come to list some quads.
+// One drawn call. The match is a table of chances: each kind has its share of eighteen, so that most cursors come to list some
+// quads.
 fn step(
     draws: &mut Draws,
     runner: &mut Runner<'_, '_, impl Print + AllocGlobal>,
@@ -50,7 +51,7 @@ fn step(
     }
 }
 
-// The last given quad, the mark right after it, or any mark.
+// The last given quad, the mark right after it, or any mark, by a table of chances.
 fn sought(draws: &mut Draws, last: Mark) -> Mark {
     match draws.below(4) {
         0 => last,

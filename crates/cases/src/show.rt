@@ -168,6 +168,7 @@ impl fmt::Display for Told {
     }
 }
 
+// The buffer has a fixed size, and the count beside it is what the roll answered.
 fn write_roll<W: fmt::Write>(
     f: &mut fmt::Formatter<W>,
     count: usize,

@@ -30,7 +30,8 @@ pub enum Call {
     Roll(usize),
 }
 
-// What a cursor that does not refuse answers.
+// What a cursor that does not refuse answers. A transcript's answer has these cases too, and beside them a roll, which no
+// cursor replies; an answer that held a reply would be read by two matches.
 #[derive(Clone, Copy, PartialEq, Eq, Debug)]
 pub(crate) enum Reply {
     Opened,
@@ -40,7 +41,8 @@ pub(crate) enum Reply {
 }
 
 impl Reply {
-    // The count in the reply, or 0. No Option: only what replies with a count is asked for it.
+    // The count in the reply, or 0. No Option: its callers have asked what replies with a count, and each
+    // would turn a None into 0.
     pub(crate) fn count(self) -> u32
         ensures { result ≡ count_of self }
     {

@@ -33,8 +33,8 @@ pub(crate) fn count_from<S: QuadSource>(source: &S, pattern: Pattern, from: Mark
     count_between(source, pattern, from, TOP)
 }
 
-// How many quads of the source match the pattern, from one mark on and below another. The two are parameters, and no struct:
-// it would be made for a single call each time.
+// How many quads of the source match the pattern, from one mark on and below another. The source and the pattern
+// are parameters, and so are the marks: a struct of two of them would be made for a single call each time.
 pub(crate) fn count_between<S: QuadSource>(
     source: &S,
     pattern: Pattern,

@@ -26,8 +26,8 @@ impl Table {
             .count()
     }
 
-    // Writes the numbers of the open cursors at the front of the buffer, and answers how many. The count is the answer, and so no
-    // iterator over the buffer stands in for it.
+    // Writes the numbers of the open cursors at the front of the buffer, and answers how many. The count of the
+    // places is the answer; a zip of the buffer with a filter of a zip of numbers and cursors would be no plainer.
     fn write_open(&self, buffer: &mut [u32]) -> usize
         requires { length (open_cursors self.now) ≤ length buffer.old }
         ensures count { result ≡ length (open_cursors self.now) }

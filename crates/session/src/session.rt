@@ -33,7 +33,8 @@ impl<'a, S: QuadSource> Session<'a, S> {
         }
     }
 
-    // Asks one cursor.
+    // Asks one cursor. That the source stays is a clause of its own here and in what calls this: `OneAsked` speaks of what the
+    // source means, and not of the source.
     fn ask(&mut self, cursor: u32, ask: Ask) -> Result<Reply, Refusal>
         ensures asked { OneAsked (S.means self.old.source.now) self.old.table cursor ask (replied result) self.new.table }
         ensures source { self.new.source.now ≡ self.old.source.now }

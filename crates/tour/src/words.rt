@@ -105,7 +105,8 @@ fn write_answer<W: fmt::Write>(f: &mut fmt::Formatter<W>, answer: Answer) -> fmt
     }
 }
 
-// The first so many of the numbers, each after a space. The count is what a roll answered beside its buffer.
+// The first so many of the numbers, each after a space. A roll's buffer has a fixed size,
+// and the count beside it is what the roll answered.
 #[derive(Drop)]
 pub(crate) struct Front<'a>(pub(crate) &'a [u32], pub(crate) usize);
 

@@ -2,9 +2,11 @@
 use Rattle.std.specs.Prelude.{◌≡◌, List, map, reverse, take, drop, replicate, Some, None, Ok, Err, Option, Result, All}
 use Rattle.quads.specs.Listings.{Listing}
 use Rattle.session.specs.Histories.{Event, History}
+use Rattle.session.specs.Keeps.{Follows}
 use Rattle.session.specs.Law.{Law}
 use Rattle.session.specs.Outcomes.{Outcome, opened, counted, rolled, refused, gave_or, refusal_number}
 use Rattle.session.specs.declared.call.Call.{Call}
+use Rattle.session.specs.declared.cursor.Table.{Table}
 use Rattle.session.specs.declared.refusal.Refusal.{Refusal}
 use Rattle.transcript.specs.declared.records.Answer.{Answer}
 use Rattle.transcript.specs.declared.records.Answer.TheVariants.{Opened, Next, Counted, Rolled}
@@ -30,6 +32,11 @@ RestKept (Ok (Next found)) = Unit {0}
 RestKept (Ok (Counted n)) = Unit {0}
 RestKept (Ok (Rolled n buffer)) = drop n buffer ≡ drop n (replicate 8 0)
 RestKept (Err r) = Unit {0}
+
+-- that a call was made, and came to this: the session goes on to follow the law, and a roll left the rest of its buffer
+pub record Made (l : Listing) (before : Table) (call : Call) (answer : Result Answer Refusal) (after : Table) : Type 0 where
+  pub law : Follows l before call (outcome_of answer) after
+  pub rest : RestKept answer
 
 abbrev pub RestTold : Option (Result Answer Refusal) → Type 0
 RestTold None = Unit {0}

@@ -1,7 +1,6 @@
 // Making one call on a session, through the public function of its name.
-ghost use Rattle.session.specs.Keeps.{Follows};
 ghost use Rattle.session.specs.declared.call.Call.TheVariants.{On, Roll};
-ghost use Rattle.transcript.specs.Transcripts.{outcome_of, RestKept};
+ghost use Rattle.transcript.specs.Transcripts.{Made};
 ghost use Rattle.std.specs.Prelude.{◌≡◌};
 
 use crate::records::Answer;
@@ -13,9 +12,8 @@ pub(crate) fn make<S: QuadSource>(
     session: &mut Session<'_, S>,
     call: Call,
 ) -> Result<Answer, Refusal>
-    ensures law { Follows (S.means session.old.source.now) session.old.table call (outcome_of result) session.new.table }
+    ensures made { Made (S.means session.old.source.now) session.old.table call result session.new.table }
     ensures source { session.new.source.now ≡ session.old.source.now }
-    ensures rest { RestKept result }
 {
     match call {
         Call::On(cursor, ask) => make_on(session, cursor, ask),
@@ -29,9 +27,8 @@ fn make_on<S: QuadSource>(
     cursor: u32,
     ask: Ask,
 ) -> Result<Answer, Refusal>
-    ensures law { Follows (S.means session.old.source.now) session.old.table (On cursor ask) (outcome_of result) session.new.table }
+    ensures made { Made (S.means session.old.source.now) session.old.table (On cursor ask) result session.new.table }
     ensures source { session.new.source.now ≡ session.old.source.now }
-    ensures rest { RestKept result }
 {
     match ask {
         Ask::Open(pattern) => session.open(cursor, pattern).map(|()| Answer::Opened),
@@ -44,8 +41,7 @@ fn make_on<S: QuadSource>(
 
 // A buffer with room for the eight cursors serves as well as a longer one.
 fn make_roll<S: QuadSource>(session: &Session<'_, S>, room: usize) -> Result<Answer, Refusal>
-    ensures law { Follows (S.means session.now.source.now) session.now.table (Roll room) (outcome_of result) session.now.table }
-    ensures rest { RestKept result }
+    ensures { Made (S.means session.now.source.now) session.now.table (Roll room) result session.now.table }
 {
     let mut buffer = [0u32; 8];
     let count = session.roll(&mut buffer[0..room.min(8)])?;

@@ -23,10 +23,10 @@ loop-record-preserved g c =
     let i = c.loop-record.record-index in
     let within : i < length rs = omega arith in
     let inv = c.loop-record.invariant in
-    let told = c.make.ensures in
+    let told = c.make.ensures.made in
     let law : Follows (means src) c.loop-record.session.table (get_or rs i blank).call (outcome_of c.make.result) c.make.new.session.table =
     subst (λ s. Follows (means s) c.loop-record.session.table (get_or rs i blank).call (outcome_of c.make.result) c.make.new.session.table) inv.0 told.law in (
-      told.source ∙ inv.0,
+      c.make.ensures.source ∙ inv.0,
       keeps_more rs i blank c.make.result within (means src) _ _ law inv.1,
       calls_more rs i blank c.make.result within ∙ inv.2,
       rest_more rs i blank c.make.result within inv.3 told.rest,
