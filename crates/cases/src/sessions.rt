@@ -17,6 +17,7 @@ pub(crate) fn run(rt: &(impl Print + AllocGlobal)) -> io::Result<()> {
     Ok(())
 }
 
+// The draws go on from session to session, and a runner has one session: so they are two parameters.
 fn one_session(
     draws: &mut Draws,
     runner: &mut Runner<'_, '_, impl Print + AllocGlobal>,

@@ -1,4 +1,5 @@
-// What a cursor does when it is asked.
+// What a cursor does when it is asked. That a refusal changes nothing (`kept`) is a clause of each that can refuse, here and at the
+// table: it speaks of what is changed, a cursor or the table, and one word for both would say no more.
 ghost use Rattle.quads.specs.Listings.{first_from};
 ghost use Rattle.session.specs.Cursors.{closed, opened_at, cursor_outcome, cursor_after, advanced, left_from, sought, sought_outcome};
 ghost use Rattle.session.specs.Outcomes.{Outcome, gave_or, replied};
