@@ -48,7 +48,8 @@ count_of Opened = 0
 count_of (Next found) = 0
 count_of (Counted n) = n
 
--- the outcomes of the public calls, by what each returns: open; next; seek, left and close
+-- the outcomes of the public calls, by what each returns: open; next; seek, left and close. Each is written out, so that a
+-- reader of a call's contract sees all its answers in one place
 abbrev pub of_open : {A : Type 0} → Result A Refusal → Outcome
 of_open (Ok x) = opened
 of_open (Err r) = refused (refusal_number r)
