@@ -46,7 +46,8 @@ impl<'a> PlainBits<'a> {
     }
 }
 
-// Whether each bit of the words after the first ones, so many of them, is a zero.
+// Whether each bit of the words after the first ones, so many of them, is a zero. In a function of its own, by which the check
+// proves `parse` alone.
 fn is_spare_zero(words: &[u64], len: usize) -> bool
     requires { len ≤ 64 * length words.now }
     ensures { result ≡ spare_zero words.now len }
@@ -67,6 +68,7 @@ impl<'a> StoredRow<'a> for PlainBits<'a> {
 
     ghost reading = { plain_read };
 
+    // By `parse`, so that the laws of reading are proved at one exit: the check does not find them at each exit of `parse`.
     fn read(words: &'a [u64]) -> Result<(PlainBits<'a>, usize), BitsFault> {
         PlainBits::parse(words)
     }

@@ -68,7 +68,7 @@ impl Draws {
         }
     }
 
-    // A number for a part of a mark, on or around the values, or at an end of the 32-bit numbers.
+    // A number for a part of a mark, on or around the values, or at an end of the 32-bit numbers: a table of chances.
     fn mark_number(&mut self) -> u32 {
         match self.below(8) {
             0 => 0,
@@ -88,7 +88,8 @@ impl Draws {
         }
     }
 
-    // A place of this kind. A given one has mostly one of the values, now and then another ID, or a number that is none.
+    // A place of this kind. A given one has mostly one of the values, now and then another ID, or a number that is
+    // none: a table of chances.
     pub(crate) fn place(&mut self, kind: Kind) -> Place {
         match kind {
             Kind::Open => Place::Any,
@@ -156,7 +157,7 @@ impl Draws {
         Ok(list)
     }
 
-    // The same quad, or one that differs at one part.
+    // The same quad, or one that differs at one part: a table of chances.
     fn spoiled(&mut self, quad: Quad) -> Quad {
         let part = Part::ALL[self.below(4) as usize];
         match self.below(3) {

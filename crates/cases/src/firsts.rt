@@ -15,6 +15,7 @@ pub(crate) fn run(rt: &(impl Print + AllocGlobal)) -> io::Result<()> {
     Ok(())
 }
 
+// The runtime and the draws are two parameters, here and in other files: what draws knows nothing of printing.
 fn one_list(rt: &impl Print, draws: &mut Draws, list: &PlainList<'_>) -> io::Result<()> {
     for s in Kind::BOTH {
         for p in Kind::BOTH {

@@ -52,7 +52,8 @@ impl<T: fmt::Display> fmt::Display for Row<'_, T> {
     }
 }
 
-// Several quads, each after a space. A quad has no Display of its own, so this is no `Row`.
+// Several quads, each after a space. A quad has no Display of its own, since each program prints quads in its own way; so this is
+// no `Row`.
 #[derive(Drop)]
 pub(crate) struct Quads<'a>(pub(crate) &'a [Quad]);
 

@@ -1,5 +1,5 @@
-// Why words are no row of numbers. Each family of rows has a fault of its own, and what is made of several takes them in
-// by `From`: so this is no part of the fault of the rows of bits.
+// Why words are no row of numbers. Each family of rows has a fault of its own, and what is made of several would take them
+// in by `From`: so this is no part of the fault of the rows of bits.
 
 #[derive(Clone, Copy, PartialEq, Eq, Debug)]
 pub enum NumbersFault {

@@ -69,6 +69,7 @@ impl<'a> StoredRow<'a> for PackedNumbers<'a> {
 
     ghost reading = { packed_read };
 
+    // By `parse`, so that the laws of reading are proved at one exit: the check does not find them at each exit of `parse`.
     fn read(words: &'a [u64]) -> Result<(PackedNumbers<'a>, usize), NumbersFault> {
         PackedNumbers::parse(words)
     }

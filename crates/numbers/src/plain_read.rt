@@ -51,6 +51,7 @@ impl<'a> StoredRow<'a> for PlainNumbers<'a> {
 
     ghost reading = { plain_numbers_read };
 
+    // By `parse`, so that the laws of reading are proved at one exit: the check does not find them at each exit of `parse`.
     fn read(words: &'a [u64]) -> Result<(PlainNumbers<'a>, usize), NumbersFault> {
         PlainNumbers::parse(words)
     }

@@ -70,6 +70,7 @@ impl<'a> StoredRow<'a> for RunBits<'a> {
 
     ghost reading = { run_read };
 
+    // By `parse`, so that the laws of reading are proved at one exit: the check does not find them at each exit of `parse`.
     fn read(words: &'a [u64]) -> Result<(RunBits<'a>, usize), BitsFault> {
         RunBits::parse(words)
     }

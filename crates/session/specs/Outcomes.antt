@@ -35,7 +35,7 @@ refusal_number CursorEnded = 23
 refusal_number MarkBehind = 24
 refusal_number BufferShort = 25
 
--- the outcome of a cursor's reply
+-- the outcome of a cursor's reply; written out, as those of the public calls below are
 abbrev pub replied : Result Reply Refusal → Outcome
 replied (Ok Opened) = opened
 replied (Ok (Next found)) = gave_or found

@@ -59,7 +59,8 @@ impl Cursor {
         Reply::Counted(given)
     }
 
-    // Counts the quads from the mark on.
+    // Counts the quads from the mark on. The source and the mark are two parameters here and below: a struct of them would be made
+    // for a single call each time.
     fn left<S: QuadSource>(&self, source: &S, mark: Mark) -> Reply
         ensures { replied (Ok result) ≡ left_from (S.means source.now) self.now.pattern mark }
     {

@@ -58,6 +58,7 @@ impl<'a, S: QuadSource> Session<'a, S> {
     {
         match self.ask(cursor, Ask::Next)? {
             Reply::Next(found) => Ok(found),
+            // No other reply comes to a next.
             _ => Ok(None),
         }
     }

@@ -7,7 +7,7 @@ use crate::records::Answer;
 use quads::QuadSource;
 use session::{Ask, Call, Refusal, Session};
 
-// Makes the call, and answers what came of it.
+// Makes the call, and answers what came of it. The program `cases` makes its calls in the same way, to be held against this.
 pub(crate) fn make<S: QuadSource>(
     session: &mut Session<'_, S>,
     call: Call,

@@ -4,7 +4,7 @@ ghost use Rattle.std.specs.Prelude.{◌≡◌};
 use quads::Quad;
 use session::{Call, Refusal};
 
-// What a call answered that was not turned down.
+// What a call answered that was not turned down. A cursor's reply has three of these cases, and never the last.
 #[derive(Clone, Copy, PartialEq, Eq, Debug)]
 pub enum Answer {
     // The cursor was opened.
