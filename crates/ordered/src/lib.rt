@@ -5,4 +5,4 @@ mod list;
 mod order;
 
 pub use list::OrderedList;
-pub use order::Ordered;
+pub use order::{Ordered, OrderedByOrd};

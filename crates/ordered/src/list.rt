@@ -22,6 +22,6 @@ impl<'a, T: Ordered> OrderedList<'a, T> {
         ensures within { result ≤ length self.now.entries.now }
         ensures place { ascends T.below self.now.entries.now ≡ true → result ≡ first_not_below T.below key.now self.now.entries.now }
     {
-        self.entries.partition_point(|entry| entry < key)
+        self.entries.partition_point(|entry| entry.is_below(key))
     }
 }

@@ -18,11 +18,14 @@ decided a b rest = by_tests (nat_lt a b) (a == b)
     by_tests false true = refl
     by_tests false false = refl
 
-pub larger : (x y : Quad) → ord_max derived.TheImpl.ghosts.cmp x y ≡ cond (quad_below y x) x y
+-- the derived order tells which quad is below the other
+pub cmp_told : (x y : Quad) → is_lt (derived.TheImpl.ghosts.cmp x y) ≡ quad_below x y
 unfolding quad_below
-larger x y =
-    ap (λ below. cond below x y)
-    (decided y.s x.s _ ∙ ap (below_or y.s x.s) (decided y.p x.p _ ∙ ap (below_or y.p x.p) (decided y.o x.o _ ∙ ap (below_or y.o x.o) (number_told y.g x.g))))
+cmp_told x y =
+    decided x.s y.s _ ∙ ap (below_or x.s y.s) (decided x.p y.p _ ∙ ap (below_or x.p y.p) (decided x.o y.o _ ∙ ap (below_or x.o y.o) (number_told x.g y.g)))
+
+pub larger : (x y : Quad) → ord_max derived.TheImpl.ghosts.cmp x y ≡ cond (quad_below y x) x y
+larger x y = ap (λ below. cond below x y) (cmp_told y x)
 
 -- `>=` is no `<`, at each answer
 not_less : (o : Ordering) → is_ge o ≡ not (is_lt o)

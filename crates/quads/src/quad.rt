@@ -2,7 +2,7 @@
 ghost use Rattle.quads.specs.Quads.{is_id, has_ids, quad_below, quad_of};
 ghost use Rattle.std.specs.Prelude.{◌≡◌};
 
-use ordered::Ordered;
+use ordered::{Ordered, OrderedByOrd};
 
 // The largest ID; the least is 1.
 pub const MAX_ID: u32 = 1_048_576;
@@ -54,11 +54,20 @@ impl Quad {
 
 impl Ordered for Quad {
     ghost use Rattle.quads.specs.QuadOrder.{quad_order};
-    ghost use Rattle.quads.specs.QuadTold.{quad_told};
 
     ghost below = { quad_below };
 
     ghost laws = { quad_order };
+
+    // Asking for the whole order is faster than `<`.
+    #[tactic(auto, using(crate::proofs::Derived::cmp_told))]
+    fn is_below(&self, other: &Quad) -> bool {
+        self.cmp(other).is_lt()
+    }
+}
+
+impl OrderedByOrd for Quad {
+    ghost use Rattle.quads.specs.QuadTold.{quad_told};
 
     ghost told = { quad_told };
 }

@@ -9,6 +9,6 @@ returns-clause-place g c a =
     let below = g.T.Ordered.below in
     let key = c.args.key.now in
     let entries = c.args.self.now.entries.now in
-    let point = IsPartitionPoint-from_clause (λ x. below x key) entries _ c.partition_point.ensures.partitioned (parted_by_key below g.T.Ordered.laws key entries a) (λ a r q k. search (rules, g.met.T.Ordered.told)) in
+    let point = IsPartitionPoint-from_clause (λ x. below x key) entries _ c.partition_point.ensures.partitioned (parted_by_key below g.T.Ordered.laws key entries a) (λ a r q k. search rules) in
     let place : c.partition_point.result ≡ first_not_below below key entries = place_parts below key entries _ c.partition_point.ensures.bound point in
     omega arith
