@@ -9,7 +9,7 @@ ghost use Rattle.std.specs.Prelude.{◌≡◌, ◌-◌, ◌*◌, ◌%◌, ◌<�
 use crate::bitmap::CountedBitmap;
 use crate::plain::PlainBits;
 use crate::stretch::{block_from, first_one, nth_in, ones_in};
-use bits::{BareBits, Row};
+use bits::{BareBits, BitRow, Row};
 use ordered::OrderedList;
 
 impl<'a> Row for PlainBits<'a> {
@@ -23,6 +23,18 @@ impl<'a> Row for PlainBits<'a> {
 
     fn get(&self, place: usize) -> Option<bool> {
         BareBits::new(self.words, self.len).get(place)
+    }
+}
+
+impl<'a> BitRow for PlainBits<'a> {
+    ghost bits = { plain_bits };
+
+    fn len(&self) -> usize {
+        Row::len(self)
+    }
+
+    fn bit(&self, place: usize) -> Option<bool> {
+        self.get(place)
     }
 }
 

@@ -4,6 +4,7 @@ ghost use Rattle.bits.specs.Words.{bits_in, held, spare_zero};
 ghost use Rattle.std.specs.Prelude.{◌≡◌, ◌↔◌, All, IsTrue, length};
 
 use crate::bare::BareBits;
+use crate::bit_row::BitRow;
 use crate::row::Row;
 
 impl<'a> BareBits<'a> {
@@ -43,6 +44,18 @@ impl<'a> Row for BareBits<'a> {
             return None;
         }
         Some((self.words[place / 64] >> (place % 64)) & 1 == 1)
+    }
+}
+
+impl<'a> BitRow for BareBits<'a> {
+    ghost bits = { bare_bits };
+
+    fn len(&self) -> usize {
+        Row::len(self)
+    }
+
+    fn bit(&self, place: usize) -> Option<bool> {
+        self.get(place)
     }
 }
 

@@ -1,4 +1,5 @@
-// The trait of rows: whatever means a list of items, bits or numbers, and gives them by their places.
+// The trait of rows: whatever means a list of items, bits or numbers, and gives them by their places. Reading rows from words stands
+// on it. Since it has a type of items, it does not serve through `dyn`: there a row of bits is asked as a `BitRow`.
 ghost use Rattle.std.specs.List.{slice_get};
 ghost use Rattle.std.specs.Prelude.{◌≡◌, List, length};
 
