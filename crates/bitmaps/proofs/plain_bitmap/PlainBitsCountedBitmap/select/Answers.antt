@@ -1,13 +1,18 @@
-use Rattle.std.proofs.Common.{◌≡◌, ◌+◌, ◌-◌, ◌*◌, ◌<◌, ltb, get_or, Some, sym, ap, ◌∙◌, arith}
+use Rattle.std.proofs.Common.{◌≡◌, ◌+◌, ◌-◌, ◌*◌, ◌<◌, ltb, get_or, Some, sym, ap, ◌∙◌, inl, arith}
 use Rattle.ordered.specs.Order.{first_not_below}
+use Rattle.bits.specs.Words.{bit_at}
 use Rattle.bitmaps.specs.Counts.{select_of}
 use Rattle.bitmaps.specs.PlainMeaning.{plain_bits}
 use Rattle.bitmaps.specs.Stretches.{stretch_bits}
 use Rattle.bitmaps.proofs.Blocks.{select_first, select_some, select_fewer}
+use Rattle.bitmaps.proofs.Tested.{select_none}
 use Rattle.bitmaps.proofs.plain_bitmap.PlainBitsCountedBitmap.select.Goals as goal
 
+pub returns-then-nth-eq0 : goal.returns-then-nth-eq0
+returns-then-nth-eq0 c = let p = c.args.self.now in select_none (bit_at p.words.now) p.len p.spare c.args.nth (inl c.if-nth-eq0.true)
+
 pub returns-in_err-block : goal.returns-in_err-block
-returns-in_err-block c = c.from_residual.ensures ∙ select_first c.args.self.now c.args.nth (let last = c.in_err-block.ensures.last in omega arith)
+returns-in_err-block c = c.from_residual.ensures ∙ select_first c.args.self.now c.args.nth (omega arith) (let last = c.in_err-block.ensures.last in omega arith)
 
 pub returns-in_err-nth_in : goal.returns-in_err-nth_in
 returns-in_err-nth_in c =
