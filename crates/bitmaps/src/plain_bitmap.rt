@@ -49,11 +49,12 @@ impl<'a> PlainBits<'a> {
         }
         let block = (end - 1) / 512;
         let before = self.directory[block] as usize;
-        let whole = ones_in(&self.words[8 * block..end / 64]);
-        // Where no word follows, none of its bits is counted.
-        let last = self.words.get(end / 64).copied().unwrap_or(0);
+        let count = before + ones_in(&self.words[8 * block..end / 64]);
+        if end % 64 == 0 {
+            return count;
+        }
         let low = (1 << (end % 64)) - 1;
-        before + whole + (last & low).count_ones() as usize
+        count + (self.words[end / 64] & low).count_ones() as usize
     }
 
     // The first place with a one from the word on, to the end of its block of eight words.
