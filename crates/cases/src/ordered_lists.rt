@@ -3,7 +3,7 @@ use crate::draws::Draws;
 use crate::show::{At, Dots, Quads, Row, Test};
 use ordered::{Ordered, OrderedList};
 use quads::Mark;
-use std::{array, io};
+use std::{array, fmt, io};
 
 const WIDE: [u64; 6] = [0, 1, 4_294_967_295, 4_294_967_296, u64::MAX, u64::MAX];
 
@@ -40,14 +40,57 @@ pub(crate) fn run(rt: &(impl Print + AllocGlobal)) -> io::Result<()> {
     Ok(())
 }
 
+// Each of these keys with the place that is found by it, each after a space. The lists are searched while their answers are
+// printed, here and below, so that no memory is asked for.
+#[derive(Drop)]
+struct Finds<'a, T>(OrderedList<'a, T>, &'a [T]);
+
+impl<T: Ordered + Copy + fmt::Display + Drop> fmt::Display for Finds<'_, T> {
+    fn fmt<W: fmt::Write>(&self, f: &mut fmt::Formatter<W>) -> fmt::Result {
+        for key in self.1 {
+            write!(f, " {}", At(*key, self.0.first_not_below(key)))?;
+        }
+        Ok(())
+    }
+}
+
+// The place that is found by each of the list's own entries, each after a space.
+#[derive(Drop)]
+struct OwnPlaces<'a, T>(OrderedList<'a, T>);
+
+impl<T: Ordered> fmt::Display for OwnPlaces<'_, T> {
+    fn fmt<W: fmt::Write>(&self, f: &mut fmt::Formatter<W>) -> fmt::Result {
+        for entry in self.0.entries {
+            write!(f, " {}", self.0.first_not_below(entry))?;
+        }
+        Ok(())
+    }
+}
+
+// Whether what is found by each of these keys is a place within the list or its length, each after a space.
+#[derive(Drop)]
+struct Within<'a, T>(OrderedList<'a, T>, &'a [T]);
+
+impl<T: Ordered> fmt::Display for Within<'_, T> {
+    fn fmt<W: fmt::Write>(&self, f: &mut fmt::Formatter<W>) -> fmt::Result {
+        for key in self.1 {
+            write!(
+                f,
+                " {}",
+                Test(self.0.first_not_below(key) <= self.0.entries.len())
+            )?;
+        }
+        Ok(())
+    }
+}
+
 // The entries, and for each key the place of the first entry that is not below it.
-fn numbers_line(rt: &(impl Print + AllocGlobal), entries: &[u64], keys: &[u64]) -> io::Result<()> {
-    let list = OrderedList::new(entries);
-    let found: Vec<At<u64>> = keys
-        .iter()
-        .map(|key| At(*key, list.first_not_below(key)))
-        .collect(rt.alloc())?;
-    println!(rt; "numbers{}:{}", Row(entries), Row(&found))
+fn numbers_line(rt: &impl Print, entries: &[u64], keys: &[u64]) -> io::Result<()> {
+    println!(rt;
+        "numbers{}:{}",
+        Row(entries),
+        Finds(OrderedList::new(entries), keys)
+    )
 }
 
 fn drawn_numbers(rt: &(impl Print + AllocGlobal), draws: &mut Draws) -> io::Result<()> {
@@ -59,12 +102,8 @@ fn drawn_numbers(rt: &(impl Print + AllocGlobal), draws: &mut Draws) -> io::Resu
 fn drawn_quads(rt: &(impl Print + AllocGlobal), draws: &mut Draws) -> io::Result<()> {
     let quads = draws.tied_list(rt.alloc())?;
     let list = OrderedList::new(&quads);
-    let places: Vec<usize> = quads
-        .iter()
-        .map(|quad| list.first_not_below(quad))
-        .collect(rt.alloc())?;
     let found = six_marks(draws).map(|mark| At(Dots(mark), list.first_not_below(&mark)));
-    println!(rt; "quads{}:{}{}", Quads(&quads), Row(&places), Row(&found))
+    println!(rt; "quads{}:{}{}", Quads(&quads), OwnPlaces(list), Row(&found))
 }
 
 fn six_marks(draws: &mut Draws) -> [Mark; 6] {
@@ -72,15 +111,6 @@ fn six_marks(draws: &mut Draws) -> [Mark; 6] {
 }
 
 // On entries in any order the answer is a place within the slice or its length.
-fn within_line<T: Ordered>(
-    rt: &(impl Print + AllocGlobal),
-    entries: &[T],
-    keys: &[T],
-) -> io::Result<()> {
-    let list = OrderedList::new(entries);
-    let within: Vec<Test> = keys
-        .iter()
-        .map(|key| Test(list.first_not_below(key) <= entries.len()))
-        .collect(rt.alloc())?;
-    println!(rt; "within{}", Row(&within))
+fn within_line<T: Ordered>(rt: &impl Print, entries: &[T], keys: &[T]) -> io::Result<()> {
+    println!(rt; "within{}", Within(OrderedList::new(entries), keys))
 }

@@ -3,7 +3,7 @@ use crate::fixed::five;
 use crate::parts::Part;
 use crate::show::Line;
 use quads::{Pattern, PlainList, Quad};
-use session::{Ask, CURSORS, Call};
+use session::{Ask, Call};
 use std::io;
 use transcript::Record;
 
@@ -22,9 +22,7 @@ pub(crate) fn run(rt: &(impl Print + AllocGlobal)) -> io::Result<()> {
     let quads = five();
     let list = PlainList::new(&quads);
     let one = [Call::On(5, Ask::Open(Pattern::ANY))];
-    let all: Vec<Call> = (0..CURSORS)
-        .map(|cursor| Call::On(cursor, Ask::Open(Pattern::ANY)))
-        .collect(rt.alloc())?;
+    let all = [0, 1, 2, 3, 4, 5, 6, 7].map(|cursor| Call::On(cursor, Ask::Open(Pattern::ANY)));
     print_run(rt, &list, "no calls", &[])?;
     print_run(rt, &list, "rolls with no cursor open", &[&ROLLS])?;
     print_run(rt, &list, "rolls with one cursor open", &[&one, &ROLLS])?;
