@@ -1,5 +1,5 @@
 -- What the directory of plain bits tells of the blocks. Assumes nothing.
-use Rattle.std.proofs.Common.{◌≡◌, ℕ, ◌+◌, ◌-◌, ◌*◌, ◌%◌, ◌<◌, ◌≤◌, true, false, not, ltb, List, length, get_or, Some, None, Option, IfSome, SomeIff, sym, refl, ap, ◌∙◌, inr, ⊎_elim, arith}
+use Rattle.std.proofs.Common.{◌≡◌, ℕ, ◌+◌, ◌-◌, ◌*◌, ◌%◌, ◌<◌, ◌≤◌, true, false, not, ltb, List, length, get_or, Some, None, Option, IfSome, SomeIff, sym, refl, ap, ◌∙◌, inl, inr, ⊎_elim, arith}
 use Rattle.std.proofs.lemmas.Bool.{cases_Bool, cases_lt, cases_eq, lt-ltb, le-ltb, ltb-true, ltb-false, not_from_false}
 use Rattle.ordered.specs.Lists.{first_place}
 use Rattle.ordered.specs.Numbers.{number_order}
@@ -108,16 +108,20 @@ module _ (p : PlainBits) where
         (cases_lt (512 * (block + 1)) p.len)
         ∙ sym (first_skip (bit_at ws) (512 * b) (512 * block) (p.len - 512 * b) (omega arith) (omega arith) zeros ∙ ap (first_place (bit_at ws) (512 * block)) rest)
 
-  -- where each block has as many ones before it as the number, there is no block
-  pub select_first : (nth : ℕ) → 0 < nth → first_not_below ltb nth dir ≡ 0 → None ≡ select_of (plain_bits p) nth
-  select_first nth some z =
+  -- where each block has as many ones before it as the number, no one has the number
+  pub select_first : (nth : ℕ) → first_not_below ltb nth dir ≡ 0 → None ≡ select_of (plain_bits p) nth
+  select_first nth z =
       select_none (bit_at ws) p.len p.spare nth
       (⊎_elim
+      (λ none. inl none)
+      (λ some.
+      ⊎_elim
       (λ empty. let no : p.len ≡ 0 = omega (arith, p.begun) in inr (omega (arith, ones_bound (bit_at ws) p.len)))
       (λ row.
       let first : get_or dir 0 0 < nth = omega (arith, dir_at 0 (omega arith), ones_bound (bit_at ws) (512 * 0)) in
       absurd (omega (arith, z, place_past ltb number_order nth dir 0 0 dir_ascends (omega arith) (lt-ltb (get_or dir 0 0) nth first))))
       (cases_eq (length dir) 0))
+      (cases_eq nth 0))
 
   -- otherwise the one of the number is in the last block with fewer before it
   module _ (nth block : ℕ) (found : block + 1 ≡ first_not_below ltb nth dir) where

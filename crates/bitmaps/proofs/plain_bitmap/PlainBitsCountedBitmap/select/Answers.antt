@@ -12,7 +12,7 @@ pub returns-then-nth-eq0 : goal.returns-then-nth-eq0
 returns-then-nth-eq0 c = let p = c.args.self.now in select_none (bit_at p.words.now) p.len p.spare c.args.nth (inl c.if-nth-eq0.true)
 
 pub returns-in_err-block : goal.returns-in_err-block
-returns-in_err-block c = c.from_residual.ensures ∙ select_first c.args.self.now c.args.nth (omega arith) (let last = c.in_err-block.ensures.last in omega arith)
+returns-in_err-block c = c.from_residual.ensures ∙ select_first c.args.self.now c.args.nth (let last = c.in_err-block.ensures.last in omega arith)
 
 pub returns-in_err-nth_in : goal.returns-in_err-nth_in
 returns-in_err-nth_in c =
