@@ -3,6 +3,7 @@ ghost use Rattle.quads.specs.PlainLists.{is_plain, verdict, checked, rises_at, r
 ghost use Rattle.std.specs.Prelude.{◌≡◌, ◌<◌, length, is_ok};
 
 use crate::quad::Quad;
+use ordered::Ordered;
 
 // Why quads are no plain list: the place of the first quad at fault, counted from 0.
 #[derive(Clone, Copy, PartialEq, Eq, Debug)]
@@ -51,10 +52,10 @@ pub fn check_plain(quads: &[Quad]) -> Result<(), ListRefusal>
 }
 
 // Whether the quad at the place is strictly above the one before it, if there is one before it.
-#[tactic(auto, using(crate::specs::QuadTold::quad_told), unfolding(crate::specs::PlainLists::rises_at))]
+#[tactic(auto, unfolding(crate::specs::PlainLists::rises_at))]
 fn rises_at(quads: &[Quad], place: usize) -> bool
     requires { place < length quads.now }
     ensures { result ≡ rises_at quads.now place }
 {
-    place == 0 || quads[place - 1] < quads[place]
+    place == 0 || quads[place - 1].is_below(&quads[place])
 }

@@ -13,7 +13,7 @@ use crate::pattern::Pattern;
 use crate::plain::PlainList;
 use crate::quad::{Mark, Quad};
 use crate::source::QuadSource;
-use ordered::OrderedList;
+use ordered::{Ordered, OrderedList};
 
 impl<'a> TryFrom<&'a [Quad]> for PlainList<'a> {
     type Error = ListRefusal;
@@ -61,7 +61,7 @@ fn first_match(quads: &[Quad], pattern: Pattern) -> Option<Quad>
         if pattern.matches(*quad) {
             return Some(*quad);
         }
-        if highest < *quad {
+        if highest.is_below(quad) {
             return None;
         }
     }

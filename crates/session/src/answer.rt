@@ -9,6 +9,7 @@ use crate::call::{Ask, Reply};
 use crate::count::{count_between, count_from, right_after};
 use crate::cursor::{Cursor, State};
 use crate::refusal::Refusal;
+use ordered::Ordered;
 use quads::{Mark, Pattern, Quad, QuadSource, one_more};
 
 impl Cursor {
@@ -84,13 +85,12 @@ impl Cursor {
     }
 
     // Moves the mark forward, or keeps it, and counts the quads that are passed over.
-    #[tactic(auto, using(quads::specs::QuadTold::quad_told))]
     fn jump<S: QuadSource>(&mut self, source: &S, mark: Mark, to: Mark) -> Result<Reply, Refusal>
         ensures outcome { replied result ≡ sought_outcome (S.means source.now) self.old.pattern mark to }
         ensures after { self.new ≡ sought self.old mark to }
         ensures kept { is_ok result ≡ false → self.new ≡ self.old }
     {
-        if to < mark {
+        if to.is_below(&mark) {
             return Err(Refusal::MarkBehind);
         }
         let jumped = count_between(source, self.pattern, mark, to);

@@ -4,6 +4,7 @@ ghost use Rattle.quads.specs.Listings.{matching, not_below};
 ghost use Rattle.quads.specs.Marks.{between, right_after};
 ghost use Rattle.std.specs.Prelude.{◌≡◌, ◌≤◌, length};
 
+use ordered::Ordered;
 use quads::{MAX_COUNT, MAX_ID, Mark, Pattern, Quad, QuadSource};
 
 // The mark right after a quad of a source.
@@ -46,7 +47,7 @@ pub(crate) fn count_between<S: QuadSource>(
     let mut count = 0;
     let mut mark = from;
     while let Some(quad) = source.first(pattern, mark) {
-        if quad >= to || count == MAX_COUNT {
+        if !quad.is_below(&to) || count == MAX_COUNT {
             return count;
         }
         count += 1;

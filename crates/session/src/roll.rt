@@ -19,11 +19,10 @@ impl Table {
     fn count_open(&self) -> usize
         ensures { result ≡ count_by (λ c. is_open c.state) self.now.cursors }
     {
-        let cursors = &self.cursors;
-        cursors
+        self.cursors
             .iter()
-            .filter(|cursor| cursor.state.is_open())
-            .count()
+            .map(|cursor| cursor.state.is_open() as usize)
+            .sum()
     }
 
     // Writes the numbers of the open cursors at the front of the buffer, and answers how many. The count of the
