@@ -72,6 +72,9 @@ impl<'a> CountedBitmap for RunBits<'a> {
     }
 
     fn following(&self, place: usize) -> Option<usize> {
+        if place >= self.len {
+            return None;
+        }
         Some(place.max(self.begin_after(place)?))
     }
 }

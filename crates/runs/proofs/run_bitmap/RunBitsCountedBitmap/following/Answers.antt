@@ -4,6 +4,12 @@ use Rattle.runs.specs.Runs.{in_runs}
 use Rattle.runs.proofs.RunPlaces.{covers_past, begun_none, begun_some}
 use Rattle.runs.proofs.run_bitmap.RunBitsCountedBitmap.following.Goals as goal
 
+pub returns-then-place-self : goal.returns-then-place-self
+returns-then-place-self c =
+    let p = c.args.self.now in
+    let past = covers_past p.len p.runs.now p.lawful in
+    following_none (in_runs p.runs.now) p.len past c.args.place (λ k low. past k (omega arith))
+
 pub returns-in_err-begin_after : goal.returns-in_err-begin_after
 returns-in_err-begin_after c =
     let p = c.args.self.now in
