@@ -75,6 +75,7 @@ impl<'a> CountedBitmap for RunBits<'a> {
         if place >= self.len {
             return None;
         }
-        Some(place.max(self.begin_after(place)?))
+        let first = self.begin_after(place)?;
+        Some(place.max(first))
     }
 }

@@ -10,18 +10,18 @@ returns-then-place-self c =
     let past = covers_past p.len p.runs.now p.lawful in
     following_none (in_runs p.runs.now) p.len past c.args.place (λ k low. past k (omega arith))
 
-pub returns-in_err-begin_after : goal.returns-in_err-begin_after
-returns-in_err-begin_after c =
+pub returns-in_err-first : goal.returns-in_err-first
+returns-in_err-first c =
     let p = c.args.self.now in
     let ws = p.runs.now in
-    c.from_residual.ensures ∙ following_none (in_runs ws) p.len (covers_past p.len ws p.lawful) c.args.place (begun_none ws c.args.place (sym c.in_err-begin_after.ensures))
+    c.from_residual.ensures ∙ following_none (in_runs ws) p.len (covers_past p.len ws p.lawful) c.args.place (begun_none ws c.args.place (sym c.in_err-first.ensures))
 
 pub returns : goal.returns
 returns c =
     let p = c.args.self.now in
     let ws = p.runs.now in
     let place = c.args.place in
-    let first = c.in_ok-begin_after.field-0 in
-    let begun = begun_some p.len ws p.lawful place first (sym c.in_ok-begin_after.ensures) in
+    let first = c.in_ok-first.first in
+    let begun = begun_some p.len ws p.lawful place first (sym c.in_ok-first.ensures) in
     let later = following_is (in_runs ws) p.len (covers_past p.len ws p.lawful) place (max place first) (omega arith) (λ k low high. begun.0 k low (omega arith)) begun.1 in
     ap Some (omega arith) ∙ later
