@@ -4,6 +4,7 @@ ghost use Rattle.numbers.specs.PackedMeaning.{packed_numbers};
 ghost use Rattle.std.specs.Prelude.{◌≡◌, ◌<◌};
 
 use crate::packed::PackedNumbers;
+use crate::row::NumberRow;
 use bits::Row;
 
 impl<'a> PackedNumbers<'a> {
@@ -41,5 +42,17 @@ impl<'a> Row for PackedNumbers<'a> {
             return None;
         }
         Some(self.at(place))
+    }
+}
+
+impl<'a> NumberRow for PackedNumbers<'a> {
+    ghost numbers = { packed_numbers };
+
+    fn len(&self) -> usize {
+        Row::len(self)
+    }
+
+    fn number(&self, place: usize) -> Option<u32> {
+        self.get(place)
     }
 }

@@ -8,7 +8,7 @@ ghost use Rattle.std.specs.Option.{option_map};
 use crate::run::Run;
 use crate::view::RunBits;
 use bitmaps::CountedBitmap;
-use bits::Row;
+use bits::{BitRow, Row};
 
 impl<'a> RunBits<'a> {
     // Which run is the first that ends after the place; past them all where none does.
@@ -42,6 +42,18 @@ impl<'a> Row for RunBits<'a> {
             return None;
         }
         Some(self.begin_after(place).is_some_and(|first| first <= place))
+    }
+}
+
+impl<'a> BitRow for RunBits<'a> {
+    ghost bits = { run_bits };
+
+    fn len(&self) -> usize {
+        Row::len(self)
+    }
+
+    fn bit(&self, place: usize) -> Option<bool> {
+        self.get(place)
     }
 }
 
