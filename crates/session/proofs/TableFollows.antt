@@ -165,7 +165,7 @@ module _ (l : Listing) (ascending : strictly_ascends quad_below l.quads ≡ true
   ask_follows t k ask = follows t (ask_after l t k ask) (On k ask) (ask_outcome l t k ask) (ask_agrees t k ask)
 
   -- the same of what a call answered and left, where it is this
-  ask_law : (t after : Table) (k : ℕ) (ask : Ask) (o : Outcome) → o ≡ ask_outcome l t k ask → after ≡ ask_after l t k ask → Follows l t (On k ask) o after
+  pub ask_law : (t after : Table) (k : ℕ) (ask : Ask) (o : Outcome) → o ≡ ask_outcome l t k ask → after ≡ ask_after l t k ask → Follows l t (On k ask) o after
   ask_law t after k ask o answer then =
       subst (λ u. Follows l t (On k ask) o u) (sym then) (subst (λ x. Follows l t (On k ask) x (ask_after l t k ask)) (sym answer) (ask_follows t k ask))
 
@@ -187,7 +187,7 @@ cond_same : {A : Type 0} (b : Bool) (x : A) → cond b x x ≡ x
 cond_same true x = refl
 cond_same false x = refl
 
-left-same : (l : Listing) (t : Table) (k : ℕ) → ask_after l t k Left ≡ t
+pub left-same : (l : Listing) (t : Table) (k : ℕ) → ask_after l t k Left ≡ t
 left-same l t k =
     let c = cursor_at t k in
     let kept : asked l t k Left ≡ t = λ i. record {
