@@ -19,6 +19,7 @@ use Rattle.numbers.proofs.Widths.{width_holds, width_least}
 -- what is so of words of which a row was read
 record RowRead (ws : List ℕ) (n : ℕ) : Type 0 where
   begun : 2 ≤ length ws
+  few : count_of ws ≤ 67108864
   wide : 1 ≤ width_in ws
   narrow : width_in ws ≤ 32
   room : packed_room (width_in ws) (count_of ws) ≤ length ws
@@ -30,6 +31,7 @@ read_facts : (ws : List ℕ) (n : ℕ) → Ok n ≡ packed_read ws → RowRead w
 unfolding packed_read
 read_facts ws n e = record {
   begun = grind (arith, nat_tests);
+  few = grind (arith, nat_tests);
   wide = grind (arith, nat_tests);
   narrow = grind (arith, nat_tests);
   room = grind (arith, nat_tests);

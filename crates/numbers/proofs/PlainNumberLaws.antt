@@ -28,8 +28,8 @@ found : (numbers rest : List ℕ) → HasNumbers numbers → Ok (plain_numbers_r
 unfolding plain_numbers_read
 found numbers rest has = grind (arith, nat_tests, length-append, take_at)
 
-again : (numbers rest : List ℕ) → HasNumbers numbers → numbers_after (plain_number_words numbers ++ rest) ≡ numbers
-again numbers rest has = take_at numbers rest (length numbers) refl
+again : (numbers rest : List ℕ) → numbers_after (plain_number_words numbers ++ rest) ≡ numbers
+again numbers rest = take_at numbers rest (length numbers) refl
 
 pub takes : (ws : List ℕ) (r : Result ℕ NumbersFault) → r ≡ plain_numbers_read ws → TakesRow plain_number_words numbers_after ws r
 takes ws = takes_row plain_number_words numbers_after plain_numbers_read ws (taken ws)
@@ -38,4 +38,4 @@ pub finds : (ws : List ℕ) (r : Result ℕ NumbersFault) → r ≡ plain_number
 finds = finds_row plain_number_words numbers_after plain_numbers_read HasNumbers plain_numbers_room found
 
 pub tells : (ws : List ℕ) → ReadsRow HasNumbers plain_number_words ws (numbers_after ws)
-tells ws items rest has e = ap numbers_after e ∙ again items rest has
+tells ws items rest has e = ap numbers_after e ∙ again items rest
