@@ -65,10 +65,6 @@ module _ (p : PlainBits) where
         (λ f. ltb-false (get_or dir (block + 1) 0) key f)
         (cases_Bool (ltb (get_or dir (block + 1) 0) key))
 
-  -- where the last block of all has fewer ones before it than the key, it is this block
-  pub last_of_all : (key last : ℕ) → last + 1 ≡ length dir → get_or dir last 0 < key → last + 1 ≡ first_not_below ltb key dir
-  last_of_all key last end fewer = omega (arith, end, place_length ltb key dir, place_past ltb number_order key dir last 0 dir_ascends (omega arith) (lt-ltb (get_or dir last 0) key fewer))
-
   pub last_within : (key : ℕ) (r : Option ℕ) → SomeIff r (0 < first_not_below ltb key dir) (first_not_below ltb key dir - 1) → IfSome r (λ block. block < length dir)
   last_within key None e = tt
   last_within key (Some block) e = block_within key block (omega (arith, e))

@@ -83,20 +83,6 @@ impl<'a> PlainBits<'a> {
             .first_not_below(&ones)
             .checked_sub(1)
     }
-
-    // The block with the one of this number, if there is such a one: the last block with fewer ones before it. Where that is the last
-    // block of all, as it is for each number past the last one, it is found without a search.
-    fn block_of(&self, nth: u64) -> Option<usize>
-        ensures last { let next = first_not_below nat_lt nth self.now.directory.now in SomeIff result (0 < next) (next - 1) }
-        ensures within { IfSome result (λ block. block < length self.now.directory.now) }
-        ensures fewer { IfSome result (λ block. slice_index self.now.directory.now block < nth) }
-    {
-        let last = self.directory.len().checked_sub(1)?;
-        if self.directory[last] < nth {
-            return Some(last);
-        }
-        self.last_block_below(nth)
-    }
 }
 
 impl<'a> CountedBitmap for PlainBits<'a> {
@@ -105,10 +91,11 @@ impl<'a> CountedBitmap for PlainBits<'a> {
     }
 
     fn select(&self, nth: usize) -> Option<usize> {
-        if nth == 0 {
+        // Asked first, so that a number that no one has is answered without a search.
+        if nth == 0 || self.count(self.len) < nth {
             return None;
         }
-        let block = self.block_of(nth as u64)?;
+        let block = self.last_block_below(nth as u64)?;
         let rest = nth - self.directory[block] as usize;
         Some(512 * block + nth_in(block_from(self.words, 8 * block), rest)?)
     }

@@ -1,4 +1,4 @@
-use Rattle.std.proofs.Common.{◌≡◌, ◌+◌, ◌-◌, ◌*◌, ◌<◌, ltb, get_or, Some, sym, ap, ◌∙◌, inl, arith}
+use Rattle.std.proofs.Common.{◌≡◌, ◌+◌, ◌-◌, ◌*◌, ◌<◌, ltb, get_or, Some, sym, ap, ◌∙◌, inl, inr, arith}
 use Rattle.ordered.specs.Order.{first_not_below}
 use Rattle.bits.specs.Words.{bit_at}
 use Rattle.bitmaps.specs.Counts.{select_of}
@@ -7,9 +7,16 @@ use Rattle.bitmaps.specs.Stretches.{stretch_bits}
 use Rattle.bitmaps.proofs.Blocks.{select_first, select_some, select_fewer}
 use Rattle.bitmaps.proofs.Tested.{select_none}
 use Rattle.bitmaps.proofs.plain_bitmap.PlainBitsCountedBitmap.select.Goals as goal
+use Rattle.bitmaps.proofs.plain_bitmap.PlainBitsCountedBitmap.select.Goals.{then-nth-eq0-via-then-nth-eq0, then-nth-eq0-via-else-nth-eq0+then-count-nth}
 
 pub returns-then-nth-eq0 : goal.returns-then-nth-eq0
-returns-then-nth-eq0 c = let p = c.args.self.now in select_none (bit_at p.words.now) p.len p.spare c.args.nth (inl c.if-nth-eq0.true)
+returns-then-nth-eq0 c =
+    let p = c.args.self.now in
+    select_none (bit_at p.words.now) p.len p.spare c.args.nth
+    (elim c.then-nth-eq0.branch [
+      | then-nth-eq0-via-then-nth-eq0 w ↦ inl w.if-nth-eq0.true
+      | then-nth-eq0-via-else-nth-eq0+then-count-nth w ↦ inr (omega (arith, w.count.ensures, w.if-count-nth.true))
+    ])
 
 pub returns-in_err-block : goal.returns-in_err-block
 returns-in_err-block c = c.from_residual.ensures ∙ select_first c.args.self.now c.args.nth (let last = c.in_err-block.ensures.last in omega arith)
