@@ -6,7 +6,9 @@ mod any_bits;
 mod any_numbers;
 mod any_read;
 mod any_row;
+mod bit_answers;
 mod kinds;
+mod number_answers;
 
 pub use any_bits::AnyBits;
 pub use any_numbers::AnyNumbers;
